@@ -1,0 +1,3 @@
+// Why a call was refused: the one fault of the whole product.
+pub mod fault;
+pub mod telling;
