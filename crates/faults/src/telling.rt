@@ -11,7 +11,10 @@ impl Refusal {
     {
         match self {
             Refusal::Misfit(_) | Refusal::OutOfRange(_) | Refusal::WrongLength => Layer::Text,
-            Refusal::TickNotAbove(_) | Refusal::VolumeTurned(_) | Refusal::NoSuchBlock | Refusal::BlockForm => Layer::Order,
+            Refusal::TickNotAbove(_)
+            | Refusal::VolumeTurned(_)
+            | Refusal::NoSuchBlock
+            | Refusal::BlockForm => Layer::Order,
             _ => Layer::Day,
         }
     }
@@ -45,8 +48,12 @@ impl Refusal {
         match self {
             Refusal::Misfit(byte) | Refusal::OutOfRange(byte) => byte,
             Refusal::TickNotAbove(pair) | Refusal::VolumeTurned(pair) => pair,
-            Refusal::RowTaken(row) | Refusal::RowEmpty(row) | Refusal::OtherMember(row) | Refusal::BlocksFull(row) => row,
-            Refusal::PostsFull(hour) | Refusal::NothingLeft(hour) | Refusal::WholeTooLarge(hour) => hour,
+            Refusal::RowTaken(row)
+            | Refusal::RowEmpty(row)
+            | Refusal::OtherMember(row)
+            | Refusal::BlocksFull(row) => row,
+            Refusal::PostsFull(hour) | Refusal::NothingLeft(hour) | Refusal::WholeTooLarge(hour) =>
+                hour,
             _ => 0,
         }
     }
@@ -55,6 +62,9 @@ impl Refusal {
     pub fn without_text(self) -> Fault
         ensures { λ r. ⌜ r ≡ fault self 0 ⌝ }
     {
-        Fault { refusal: self, line: 0 }
+        Fault {
+            refusal: self,
+            line: 0,
+        }
     }
 }

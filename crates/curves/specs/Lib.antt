@@ -1,0 +1,15 @@
+pub mod Tables
+pub mod Points
+pub mod Ranges
+pub mod Sequences
+pub mod Views
+pub mod Chained
+pub mod Steps
+pub mod Lines
+pub mod Offers
+pub mod Orders
+pub mod Ladder
+pub mod Halving
+pub mod Price
+pub mod Loads
+pub mod Figures
