@@ -14,6 +14,8 @@ pub mod quotes;
 pub mod rounding;
 pub mod sides;
 pub mod steps;
+#[cfg(test)]
+mod tests;
 pub mod theorems;
 pub mod ticks;
 mod walks;

@@ -24,7 +24,7 @@ pub impl Curve for Market as MarketCurve {
     }
 
     fn volume_at(&self, _tick: Tick) -> u64 {
-        self.volume as u64
+        u64::from(self.volume)
     }
 
     fn greatest(&self) -> u64 {

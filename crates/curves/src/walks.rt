@@ -1,5 +1,5 @@
 // What a list of pairs shows at a tick.
-ghost use Prim.Native.Nat.{ℕ, _≤_, _<_};
+ghost use Prim.Native.Nat.{ℕ, _+_, _/_, _≤_, _<_};
 ghost use mathlib.Core.Path.{_≡_};
 ghost use Rattle.curves.specs.Steps.{lastBelow, firstAbove, stepShows};
 ghost use Rattle.curves.specs.Lines.{inside, straight, rounded};
@@ -72,5 +72,12 @@ fn round(n: u64, d: u64) -> u64
     requires { ⌜ 0 < d ⌝ ∗ ⌜ d ≤ 300000 ⌝ ∗ ⌜ n ≤ 60000000000 ⌝ }
     ensures { λ r. ⌜ r ≡ rounded n d ⌝ }
 {
-    (n + rounding(d)) / d
+    quotient(n, rounding(d), d)
+}
+
+fn quotient(n: u64, addend: u64, d: u64) -> u64
+    requires { ⌜ 0 < d ⌝ ∗ ⌜ addend < d ⌝ ∗ ⌜ d ≤ 300000 ⌝ ∗ ⌜ n ≤ 60000000000 ⌝ }
+    ensures { λ r. ⌜ r ≡ (n + addend) / d ⌝ }
+{
+    (n + addend) / d
 }
