@@ -1,6 +1,5 @@
-use mathlib.Core.Path.{refl}
 use Rattle.curves.proofs.Checked as checked
 use Rattle.curves.proofs.theorems.figures_stand.Needs as need
 
 pub returns : need.returns
-returns c = record { table = checked.figures; count = refl }
+returns c = checked.figures
