@@ -1,4 +1,13 @@
-// Prices a few worked hours through the library's public calls.
+// Prices a few worked hours, and shares one out, through the library's public calls.
+use allocation::block::BlockClaim;
+use allocation::block::BlockRank;
+use allocation::kinds::share_kinds;
+use allocation::limit::LimitClaim;
+use allocation::limit::LimitRank;
+use allocation::market::MarketClaim;
+use allocation::market::MarketRank;
+use areas::areas::area;
+use curves::curves::Curve;
 use curves::lines::Linear;
 use curves::loads::price_with_loads;
 use curves::markets::Market;
@@ -8,6 +17,7 @@ use curves::orders::Order;
 use curves::quotes::Quote;
 use curves::sides::Side;
 use curves::steps::Step;
+use curves::ticks::Tick;
 use faults::fault::Fault;
 use faults::fault::FaultDebug;
 use std::io;
@@ -142,7 +152,80 @@ fn others(rt: &impl Print) -> Result<(), Trouble> {
     )
 }
 
+// The claim of a step or linear order at the price.
+fn limit_claim(order: &Order, price: Tick, stamp: u32) -> LimitClaim {
+    LimitClaim {
+        area: area(order, price),
+        volume: order.volume_at(price),
+        stamp,
+    }
+}
+
+// An hour with more asked for than offered: a block, a market order and two step orders share what is executed.
+fn shares(rt: &impl Print) -> Result<(), Trouble> {
+    let (tick, executed, surplus) = price_with_loads(
+        Order::Step(
+            Step::new(
+                Side::Buy,
+                &[
+                    Quote {
+                        tick: 6_000,
+                        volume: 150,
+                    },
+                    Quote {
+                        tick: 7_000,
+                        volume: 50,
+                    },
+                ],
+            )?,
+        ),
+        35,
+        step(Side::Sell, 4_000, 120)?,
+        0,
+        5_000,
+    )?;
+    println!(
+        rt,
+        "four buyers and one seller: price {tick} volume {executed} surplus {surplus}"
+    )?;
+    let price = Tick::new(tick)?;
+    let blocks = [BlockClaim {
+        hours: 4,
+        volume: 15,
+        stamp: 4,
+    }];
+    let markets = [MarketClaim {
+        volume: 20,
+        stamp: 1,
+    }];
+    let limits = [
+        limit_claim(&step(Side::Buy, 6_000, 100)?, price, 2),
+        limit_claim(&step(Side::Buy, 7_000, 50)?, price, 3),
+    ];
+    let mut to_blocks = [0; 1];
+    let mut to_markets = [0; 1];
+    let mut to_limits = [0; 2];
+    share_kinds(
+        executed,
+        &blocks,
+        &markets,
+        &limits,
+        &mut to_blocks,
+        &mut to_markets,
+        &mut to_limits,
+    )?;
+    let [block] = to_blocks;
+    let [market] = to_markets;
+    let [low, high] = to_limits;
+    println!(
+        rt,
+        "block share {block}, market share {market}, step 6000 share {low}, step 7000 share {high}"
+    )?;
+    Ok(())
+}
+
 fn main(rt: LibcRuntime) -> Result<(), Trouble> {
     steps(&rt)?;
-    others(&rt)
+    others(&rt)?;
+    shares(&rt)
 }

@@ -1,0 +1,4 @@
+pub mod Summing
+pub mod Layers
+pub mod Sharing
+pub mod Joining

@@ -1,0 +1,4 @@
+pub mod Sums
+pub mod Euclid
+pub mod Running
+pub mod Piecewise
