@@ -1,0 +1,9 @@
+pub mod Laws
+pub mod Numbers
+pub mod Scans
+pub mod Tokenings
+pub mod Steps
+pub mod Stages
+pub mod Turns
+pub mod Writings
+pub mod Places

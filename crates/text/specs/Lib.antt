@@ -1,0 +1,7 @@
+pub mod Format
+pub mod Items
+pub mod Tokens
+pub mod Closing
+pub mod Staged
+pub mod Writes
+pub mod Places

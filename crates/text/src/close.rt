@@ -1,0 +1,6 @@
+// What ends an item.
+#[derive(Clone, Copy, PartialEq, Eq, Debug)]
+pub enum Close {
+    Space,
+    Line,
+}
