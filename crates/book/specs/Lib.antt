@@ -1,0 +1,10 @@
+pub mod Bids
+pub mod Verdicts
+pub mod Conditions
+pub mod Places
+pub mod Entering
+pub mod Shown
+pub mod HourSets
+pub mod Drafted
+pub mod Views
+pub mod Short
