@@ -1,0 +1,12 @@
+pub mod Described
+pub mod Chains
+pub mod Parts
+pub mod Rules
+pub mod Openings
+pub mod Ordering
+pub mod Refilled
+pub mod Tabled
+pub mod Chaining
+pub mod Worded
+pub mod Bounded
+pub mod Fitting

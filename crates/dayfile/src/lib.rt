@@ -1,0 +1,13 @@
+// The text of a day: read into lent tables and written back.
+pub mod blanks;
+pub mod kinds;
+pub mod lines;
+pub mod loading;
+pub mod naming;
+pub mod opening;
+mod orders;
+pub mod promises;
+mod putting;
+mod sections;
+mod sequencing;
+pub mod writing;
