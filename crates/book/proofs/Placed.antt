@@ -45,10 +45,6 @@ pub placed-length : (rows : List Row) → length (places rows) ≡ length rows
 unfolding places
 placed-length rows = length-map rows placeOf
 
--- one row more is empty
-pub emptied-more : (rows : List Row) (i : ℕ) → i < length rows → take i rows ≡ replicate i Empty → take (i + 1) (set rows i Empty) ≡ replicate (i + 1) Empty
-emptied-more rows i h e = take-more-set rows i Empty h ∙ (ap (λ (xs : List Row). xs ++ (Empty ∷ [])) e ∙ replicate-more i Empty)
-
 pub placed-empty : (n : ℕ) → places (replicate n Empty) ≡ replicate n vacant
 unfolding places
 placed-empty zero = refl

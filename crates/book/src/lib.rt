@@ -1,5 +1,6 @@
 // The order book: orders as asked, the order table, and one side of an hour as a curve.
 pub mod admit;
+pub mod blanks;
 pub mod blocks;
 pub mod drafts;
 pub mod entering;

@@ -2,7 +2,7 @@
 ghost use Prim.Native.Nat.{ℕ, _+_, _-_, _≤_, _<_};
 ghost use mathlib.Core.Bool.{cond};
 ghost use mathlib.Core.Path.{_≡_};
-ghost use lib.ListN.{length, set, take, drop, replicate};
+ghost use lib.ListN.{length, set, take, drop};
 ghost use Rattle.book.specs.Bids.{vacant, held, bidOf};
 ghost use Rattle.book.specs.Places.{placeAt, taken, ownedBy, holdsBlock, blocksHeld, others};
 ghost use Rattle.book.specs.Views.{ticketOf, entryOf, placeOf, places};
@@ -112,19 +112,4 @@ pub(crate) fn empty(rows: &mut [Row], row: usize)
     ensures { λ _. ⌜ places (now (rows .exit)) ≡ set (places (now (rows .entry))) row vacant ⌝ }
 {
     rows[row] = Row::Empty;
-}
-
-fn vacate(row: &mut Row)
-    ensures { λ _. ⌜ now (row .exit) ≡ Row.Empty ⌝ }
-{
-    *row = Row::Empty;
-}
-
-// Empties every row.
-pub fn clear(rows: &mut [Row])
-    ensures { λ _. ⌜ places (now (rows .exit)) ≡ replicate (length (now (rows .entry))) vacant ⌝ }
-{
-    for row in rows.iter_mut() {
-        vacate(row);
-    }
 }

@@ -1,10 +1,8 @@
 -- What a reader's steps say of an order line and of a day's sections.
-use mathlib.Core.Path.{_≡_, refl, sym, ap, _∙_}
-use mathlib.Core.Bool.{false}
+use mathlib.Core.Path.{_≡_, refl, ap, _∙_}
 use mathlib.Core.List.{List, [], _∷_, _++_, map}
-use Prim.Native.Nat.{ℕ, _+_, _-_, _<_, _≤_}
-use native.Mathlib.Omega.{arith}
-use lib.ListN.{length, take, drop, set}
+use Prim.Native.Nat.{ℕ, _+_, _-_, _<_}
+use lib.ListN.{length, take, set}
 use Rattle.std.specs.declared.result.Result.{Result}
 use Rattle.std.specs.Results.{ErrBy}
 use Rattle.std.proofs.shelf.Lists.{take-more-set, map-push, take-at}
@@ -17,8 +15,7 @@ use Rattle.curves.specs.Offers.{Form}
 use Rattle.curves.specs.Points.{Point}
 use Rattle.curves.specs.Views.{quoted, quotes}
 use Rattle.book.specs.declared.drafts.Draft.{Draft}
-use Rattle.book.specs.declared.drafts.Quotes.{Quotes}
-use Rattle.book.specs.Drafted.{pairsOf, formOf, askedOf}
+use Rattle.book.specs.Drafted.{formOf, askedOf}
 use Rattle.text.specs.declared.reader.Reader.{Reader}
 use Rattle.text.specs.Format.{Outcome, got, refused, onward, item}
 use Rattle.text.specs.Tokens.{told, ahead}

@@ -1,17 +1,17 @@
 -- The descriptions of an order line and of a day are faithful.
-use mathlib.Core.Path.{_≡_, refl, sym, ap, _∙_}
+use mathlib.Core.Path.{_≡_, refl, sym, ap}
 use mathlib.Core.Bool.{true, false, cond}
 use mathlib.Core.List.{List, [], _∷_}
-use Prim.Native.Nat.{ℕ, _+_, _^_, _<_}
+use Prim.Native.Nat.{ℕ, _^_, _<_}
 use native.Mathlib.Omega.{arith}
 use lib.Chars.{codes}
 use lib.Dec.{eqb}
 use lib.ListN.{length}
 use Rattle.curves.specs.declared.sides.Side.the-variants.{Buy, Sell}
 use Rattle.curves.specs.Offers.{Form, flat, stairs, slopes}
-use Rattle.text.specs.Format.{Format, item, then, line, dressed, parting, Faithful}
+use Rattle.text.specs.Format.{Format, item, then, parting, Faithful}
 use Rattle.text.specs.Items.{number, keyword}
-use Rattle.text.specs.Staged.{checked, staged, many}
+use Rattle.text.specs.Staged.{many}
 use Rattle.text.proofs.Laws.{faithful-item, faithful-then, faithful-dressed, faithful-line}
 use Rattle.text.proofs.Numbers.{lawful-number, lawful-word}
 use Rattle.text.proofs.Stages.{faithful-checked, faithful-recast, faithful-staged, faithful-many}

@@ -83,8 +83,7 @@ order-fits n a e =
     let p = past (badNumber a) outOfRange (andThen (formVerdict side form) (blockVerdict n (a .product) form)) e in
     let q = or-parts (badRow (a .row) || badMember (a .member)) (badProduct (a .product)) (p .0) in
     let r = or-parts (badRow (a .row)) (badMember (a .member)) (q .0) in
-    let f = first-past (formVerdict side form) (blockVerdict n (a .product) form) (p .1) in
-    (
+    let f = first-past (formVerdict side form) (blockVerdict n (a .product) form) (p .1) in (
       (omega arith, ltb-false 255 (a .row) (r .0)),
       (in-range 1 999 (a .member) (r .1), (in-range 1 38 (a .product) (q .1), (side-fits side, form-fits side form f))),
     )

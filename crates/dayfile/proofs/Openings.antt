@@ -19,7 +19,7 @@ use Rattle.text.specs.Staged.{left, leaving}
 use Rattle.text.specs.Tokens.{ahead}
 use Rattle.text.proofs.Turns.{then-on, then-no, dressed-told}
 use Rattle.dayfile.specs.Day.{DayText, Book, emptyPlaces, emptyBook, booked, hoursText, blocksText, ordersText, dayItems, asDay, dayText}
-use Rattle.dayfile.specs.Loading.{bookOf, Opened, opened, rightLengths, loading, Head, headIn, loadHead, loadPlaces}
+use Rattle.dayfile.specs.Loading.{bookOf, Opened, opened, rightLengths, loading, loadHead, loadPlaces}
 
 -- a day's reading as the day that it opens
 abbrev pub opening : Outcome DayText → Outcome Opened

@@ -1,29 +1,28 @@
 -- What a reader's steps say of a day's sections.
 use mathlib.Core.Path.{_≡_, refl, sym, ap, _∙_}
-use mathlib.Core.Bool.{Bool, true, false, _||_}
+use mathlib.Core.Bool.{true}
 use mathlib.Core.List.{List, [], _∷_, _++_, map}
 use Prim.Native.Nat.{ℕ, _+_, _-_, _^_, _<_, _≤_}
-use native.Mathlib.Omega.{arith}
 use lib.Chars.{codes}
 use lib.ListN.{length, take, set}
 use Rattle.std.specs.declared.result.Result.{Result}
-use Rattle.std.specs.declared.result.Result.the-variants.{Ok, Err}
+use Rattle.std.specs.declared.result.Result.the-variants.{Ok}
 use Rattle.std.proofs.shelf.Lists.{take-more-set, map-push}
-use Rattle.std.proofs.shelf.Tests.{or-from, le-ltb, lt-leb}
+use Rattle.std.proofs.shelf.Tests.{le-ltb, lt-leb}
 use Rattle.faults.specs.declared.fault.Fault.{Fault}
 use Rattle.curves.specs.declared.ticks.Tick.{Tick}
 use Rattle.std.specs.Results.{ErrBy}
 use Rattle.std.proofs.shelf.Results.{err-from-errBy}
 use Rattle.book.specs.Bids.{Asked, Place}
 use Rattle.book.specs.Conditions.{decide, unless}
-use Rattle.book.specs.HourSets.{badHours, pushRefusals, pushed}
+use Rattle.book.specs.HourSets.{pushRefusals, pushed}
 use Rattle.text.specs.declared.reader.Reader.{Reader}
-use Rattle.text.specs.Format.{Outcome, got, refused, onward, Format, item, then, parting, Faithful}
+use Rattle.text.specs.Format.{Outcome, got, refused, onward, item, then, parting}
 use Rattle.text.specs.Items.{number}
 use Rattle.text.specs.Tokens.{ahead}
 use Rattle.text.specs.Staged.{leaving, many}
 use Rattle.text.proofs.Turns.{then-on, then-no, dressed-told}
-use Rattle.dayfile.specs.Day.{countItems, countText, section, tickLine, hoursText, setLine, blocksText, booked, emptyBook, orderLines, ordersText}
+use Rattle.dayfile.specs.Day.{countItems, countText, tickLine, hoursText, setLine, blocksText, booked, emptyBook, orderLines, ordersText}
 use Rattle.dayfile.specs.Loading.{bookTold}
 use Rattle.dayfile.specs.Views.{tickValues}
 use Rattle.dayfile.proofs.Described.{faithful-number, faithful-count}

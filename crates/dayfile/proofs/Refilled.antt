@@ -230,8 +230,7 @@ enterable n b (x ∷ xs) long f v o a k m =
     let lt : x .row < length ps = omega arith in
     let p = held (bidOf x (b .given + 1)) in
     let more = blocks-written ps (x .row) (bidOf x (b .given + 1)) lt (o .0) in
-    let free : Free ps (b .given) x = record { vacant-row = o .0; room = room ps x (blocksOf xs) (o .0) k; stamp-left = lt-leb 60000 (b .given) (omega arith) } in
-    (
+    let free : Free ps (b .given) x = record { vacant-row = o .0; room = room ps x (blocksOf xs) (o .0) k; stamp-left = lt-leb 60000 (b .given) (omega arith) } in (
       (f .0, rule-when n b x (v .0) free),
       enterable n (booked b x) xs (length-set ps (x .row) p ∙ long) (f .1) (v .1) (open-set ps (x .row) p xs (a .0) (o .1)) (a .1) (omega arith) (omega arith),
     )

@@ -4,7 +4,6 @@ use mathlib.Core.Bool.{Bool, true, false}
 use mathlib.Core.List.{List, [], _∷_}
 use Prim.Native.Nat.{ℕ}
 use native.Mathlib.Omega.{arith}
-use lib.Dec.{eqb}
 use Rattle.std.specs.declared.result.Result.{Result}
 use Rattle.std.specs.declared.result.Result.the-variants.{Ok, Err}
 use Rattle.std.proofs.shelf.Tests.{eq-eqb}
@@ -17,7 +16,7 @@ use Rattle.book.specs.Drafted.{tooMany, askedOf, draftVerdict}
 use Rattle.book.specs.Entering.{enterRefusals, written, enterAnswer, entered, ofTable, inTable}
 use Rattle.book.specs.Verdicts.{verdict}
 use Rattle.text.specs.Staged.{granted, denied, andThen}
-use Rattle.dayfile.specs.Day.{Book, ruling, lineRule}
+use Rattle.dayfile.specs.Day.{ruling, lineRule}
 use Rattle.dayfile.specs.Loading.{bookOf}
 
 granting-no : {A : Type 0} (v : Result (Unit {0}) Fault) (a : A) (f : Fault) → Err f ≡ granting v a → v ≡ Err f

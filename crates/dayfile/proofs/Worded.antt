@@ -107,6 +107,7 @@ hours-read hs k h e = ⊎-elim here past (cases-lt k (length hs))
         let e′ : Some h ≡ Some (getD hs k 0) = rw (lt-ltb k (length hs) lt) at e in
         let is : h ≡ getD hs k 0 = cc in
         (lt, getD-default hs k h 0 lt ∙ sym is)
+
     past : length hs ≤ k → (k < length hs) × (getD hs k h ≡ h)
     past le = let e′ : Some h ≡ None = rw (le-ltb k (length hs) le) at e in let z : _≡_ {A = ℕ} 0 1 = cc in absurd (omega arith)
 

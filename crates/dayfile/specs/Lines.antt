@@ -6,7 +6,7 @@ use lib.Dec.{eqb}
 use lib.ListN.{length}
 use Rattle.curves.specs.declared.sides.Side.{Side}
 use Rattle.curves.specs.Points.{Point}
-use Rattle.curves.specs.Offers.{Form, flat, stairs, slopes, Offer, offer}
+use Rattle.curves.specs.Offers.{Form, flat, stairs, slopes, offer}
 use Rattle.book.specs.Bids.{Asked}
 use Rattle.text.specs.Format.{Format, item, then, dressed}
 use Rattle.text.specs.Items.{number}

@@ -1,5 +1,4 @@
 // The text of a day: read into lent tables and written back.
-pub mod blanks;
 pub mod kinds;
 pub mod lines;
 pub mod loading;
@@ -10,4 +9,8 @@ pub mod promises;
 mod putting;
 mod sections;
 mod sequencing;
+#[cfg(test)]
+mod tests;
 pub mod writing;
+#[cfg(test)]
+mod written_tests;

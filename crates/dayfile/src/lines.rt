@@ -67,7 +67,10 @@ fn read_quotes(reader: &mut Reader, line: usize) -> Result<Quotes, Fault>
     let count = reader.number(line, 1, 8, Close::Space)?;
     let mut pairs = [Quote { tick: 0, volume: 0 }; 8];
     read_pairs(reader, line, &mut pairs[0..count as usize])?;
-    Ok(Quotes { pairs, count: count as usize })
+    Ok(Quotes {
+        pairs,
+        count: count as usize,
+    })
 }
 
 // A form, and what follows it.
@@ -126,5 +129,11 @@ pub fn read_order(reader: &mut Reader, line: usize) -> Result<Draft, Fault>
     let product = read_product(reader, line)?;
     let word = reader.word::<SideWord>(line, Close::Space)?;
     let terms = read_terms(reader, line)?;
-    Ok(Draft { row: row as usize, member, product, side: word.side, terms })
+    Ok(Draft {
+        row: row as usize,
+        member,
+        product,
+        side: word.side,
+        terms,
+    })
 }

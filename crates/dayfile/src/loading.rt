@@ -10,13 +10,13 @@ ghost use Rattle.text.specs.Format.{Faithful, onward, got};
 ghost use Rattle.text.specs.Tokens.{told, ahead};
 ghost use Rattle.dayfile.specs.Day.{emptyPlaces, dayText};
 ghost use Rattle.dayfile.specs.Loading.{opened, openedBy, rightLengths, loading, headOf, loadHead, loadPlaces};
-use crate::blanks::clear;
-use crate::blanks::Blank;
-use crate::blanks::RowBlank;
 use crate::opening::Opening;
 use crate::orders::read_orders;
 use crate::sections::read_blocks;
 use crate::sections::read_references;
+use book::blanks::Blank;
+use book::blanks::RowBlank;
+use book::blanks::clear;
 use book::rows::Row;
 use faults::fault::Fault;
 use faults::fault::Refusal;
@@ -32,7 +32,11 @@ fn read_day(reader: &mut Reader, rows: &mut [Row]) -> Result<Opening, Fault>
     let references = read_references(reader)?;
     let blocks = read_blocks(reader)?;
     let given = read_orders(reader, rows, blocks.len())?;
-    Ok(Opening { references, blocks, given })
+    Ok(Opening {
+        references,
+        blocks,
+        given,
+    })
 }
 
 fn right_lengths(rows: usize, hours: usize, marks: usize, posts: usize) -> bool
@@ -42,20 +46,26 @@ fn right_lengths(rows: usize, hours: usize, marks: usize, posts: usize) -> bool
 }
 
 // After a refusal: the reader back where it was, and every row empty.
-fn undo(reader: &mut Reader, start: usize, rows: &mut [Row])
+fn undo(reader: &mut Reader, start: usize, table: &mut [Row])
     requires { ⌜ start ≤ length (now (now reader .input)) ⌝ }
-    ensures rows { λ _. ⌜ now (rows .exit) ≡ replicate (length (now (rows .entry))) Empty ⌝ }
+    ensures rows { λ _. ⌜ now (table .exit) ≡ replicate (length (now (table .entry))) Empty ⌝ }
     ensures at { λ _. ⌜ now (reader .exit) .at ≡ start ⌝ }
     ensures input { λ _. ⌜ now (now (reader .exit) .input) ≡ now (now (reader .entry) .input) ⌝ }
 {
     reader.at = start;
-    clear(rows);
+    clear(table);
 }
 
 // Opens the day whose text begins at the reader's place: the orders go into the rows, with the stamps from 1 on, and every
 // other place is emptied. The answer carries what else the day begins with, and the reader stands where its text ends.
 // A refused load leaves every place empty, and the reader where it was.
-pub fn load<H: Blank, M: Blank, P: Blank>(reader: &mut Reader, rows: &mut [Row], hours: &mut [H], marks: &mut [M], posts: &mut [P]) -> Result<Opening, Fault>
+pub fn load<H: Blank, M: Blank, P: Blank>(
+    reader: &mut Reader,
+    rows: &mut [Row],
+    hours: &mut [H],
+    marks: &mut [M],
+    posts: &mut [P],
+) -> Result<Opening, Fault>
     ensures answer { λ r. ⌜ told (viewed headOf r) (now (reader .exit)) ≡ loadHead (loading (rightLengths (length (now (rows .entry))) (length (now (hours .entry))) (length (now (marks .entry))) (length (now (posts .entry)))) (now (reader .entry) .at) (ahead (now (reader .entry)))) ⌝ }
     ensures rows { λ _. ⌜ places (now (rows .exit)) ≡ loadPlaces (length (now (rows .entry))) (loading (rightLengths (length (now (rows .entry))) (length (now (hours .entry))) (length (now (marks .entry))) (length (now (posts .entry)))) (now (reader .entry) .at) (ahead (now (reader .entry)))) ⌝ }
     ensures hours { λ _. ⌜ now (hours .exit) ≡ replicate (length (now (hours .entry))) (H·Blank .blank) ⌝ }

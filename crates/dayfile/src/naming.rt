@@ -1,6 +1,5 @@
 // The words of an order line.
 ghost use mathlib.Core.List.{_∷_, []};
-ghost use mathlib.Core.Path.{_≡_};
 ghost use Rattle.curves.specs.declared.sides.Side.the-variants.{Buy, Sell};
 ghost use Rattle.dayfile.specs.Kinds.{sideName, wordOf, kindName};
 ghost use Rattle.dayfile.specs.declared.kinds.Kind.the-variants.{Market, Step, Linear};

@@ -1,7 +1,7 @@
 // The orders of a day, each entered as its line is read.
 ghost use mathlib.Core.Bool.{false};
 ghost use mathlib.Core.Path.{_≡_};
-ghost use Prim.Native.Nat.{ℕ, _<_, _≤_};
+ghost use Prim.Native.Nat.{_<_};
 ghost use lib.ListN.{length};
 ghost use Rattle.std.specs.Results.{Cases};
 ghost use Rattle.faults.specs.Refusals.{fault};
@@ -25,11 +25,20 @@ use text::reader::Reader;
 fn at_line(why: Fault, line: usize) -> Fault
     ensures { λ r. ⌜ r ≡ fault (why .refusal) line ⌝ }
 {
-    Fault { refusal: why.refusal, line }
+    Fault {
+        refusal: why.refusal,
+        line,
+    }
 }
 
 // Enters the order of a line that was read.
-fn enter_order(rows: &mut [Row], given: u32, draft: &Draft, blocks: usize, line: usize) -> Result<(), Fault>
+fn enter_order(
+    rows: &mut [Row],
+    given: u32,
+    draft: &Draft,
+    blocks: usize,
+    line: usize,
+) -> Result<(), Fault>
     requires whole { ⌜ length (now rows) ≡ 256 ⌝ }
     requires few { ⌜ tooMany (now draft .terms) ≡ false ⌝ }
     ensures rule { λ r. ⌜ Ruled (lineRule blocks (bookOf (places (now (rows .entry))) given) (askedOf (now (draft .entry)))) line r ⌝ }
@@ -60,7 +69,11 @@ fn read_lines(reader: &mut Reader, rows: &mut [Row], n: u32, blocks: usize) -> R
 }
 
 // The orders, into an empty table; how many there are.
-pub(crate) fn read_orders(reader: &mut Reader, rows: &mut [Row], blocks: usize) -> Result<u32, Fault>
+pub(crate) fn read_orders(
+    reader: &mut Reader,
+    rows: &mut [Row],
+    blocks: usize,
+) -> Result<u32, Fault>
     requires whole { ⌜ length (now rows) ≡ 256 ⌝ }
     requires empty { ⌜ places (now rows) ≡ emptyPlaces ⌝ }
     ensures told { λ r. ⌜ bookTold r (places (now (rows .exit))) (now (reader .exit)) ≡ leaving booked emptyBook (ordersText blocks .read 0 (now (reader .entry) .at) (ahead (now (reader .entry)))) ⌝ }

@@ -21,7 +21,12 @@ use text::close::Close;
 use text::reader::Reader;
 
 // A line with a word and a count.
-pub(crate) fn read_count(reader: &mut Reader, word: &[u8], low: u32, high: u32) -> Result<u32, Fault>
+pub(crate) fn read_count(
+    reader: &mut Reader,
+    word: &[u8],
+    low: u32,
+    high: u32,
+) -> Result<u32, Fault>
     ensures told { λ r. ⌜ told r (now (reader .exit)) ≡ countText (now (word .entry)) low high .read 0 (now (reader .entry) .at) (ahead (now (reader .entry))) ⌝ }
     ensures input { λ _. ⌜ now (now (reader .exit) .input) ≡ now (now (reader .entry) .input) ⌝ }
     ensures range { λ r. ⌜ made r (λ n. n ≤ high) ⌝ }

@@ -1,8 +1,8 @@
 // Reads a day file from the standard input and writes the day as it was understood, or why it is refused.
 ghost use Rattle.goosespan.specs.declared.Later.the-variants.{Empty};
+use book::blanks::Blank;
+use book::blanks::RowBlank;
 use book::rows::Row;
-use dayfile::blanks::Blank;
-use dayfile::blanks::RowBlank;
 use dayfile::loading::load;
 use dayfile::writing::write;
 use faults::display::FaultDisplay;
@@ -37,7 +37,13 @@ fn day_written(input: &[u8], out: &mut [u8]) -> Result<usize, Fault> {
     }
     let mut rows = [Row::Empty; 256];
     let mut reader = Reader::new(input);
-    let opening = load(&mut reader, &mut rows, &mut [Later::Empty; 24], &mut [Later::Empty; 256], &mut [Later::Empty; 128])?;
+    let opening = load(
+        &mut reader,
+        &mut rows,
+        &mut [Later::Empty; 24],
+        &mut [Later::Empty; 256],
+        &mut [Later::Empty; 128],
+    )?;
     write(&opening, &rows, out)
 }
 

@@ -1,4 +1,4 @@
-use mathlib.Core.Path.{_≡_, _∙_}
+use mathlib.Core.Path.{_∙_}
 use Rattle.curves.specs.Views.{quoted}
 use Rattle.text.specs.Closing.{closeByte}
 use Rattle.text.specs.Format.{item}
@@ -14,7 +14,7 @@ returns-in-Break-tick c =
     let b = closeByte (c .args .end) in
     record {
       told = viewed-err quoted (c .from-residual .result) (c .in-Break-tick .field-0 .0) (c .number .last .self) (c .from-residual .ensures .1) ∙ point-told l s b _
-        (then-no (item (number 1 300000) 32) (λ _. item (number 1 100000) b) l s _ (c .in-Break-tick .ensures tt .told));
+          (then-no (item (number 1 300000) 32) (λ _. item (number 1 100000) b) l s _ (c .in-Break-tick .ensures tt .told));
       input = c .number .ensures .input;
     }
 
@@ -25,7 +25,7 @@ returns-in-Break-volume c =
     let b = closeByte (c .args .end) in
     record {
       told = viewed-err quoted (c .from-residual-in-Break-volume .result) (c .in-Break-volume .field-0 .0) (c .number-2 .last .self) (c .from-residual-in-Break-volume .ensures .1) ∙ point-told l s b _
-        (then-on (item (number 1 300000) 32) (λ _. item (number 1 100000) b) l s (c .number .last .self) (c .in-Continue-tick .tick) _ (c .in-Continue-tick .ensures tt .told) (c .in-Break-volume .ensures tt .told));
+          (then-on (item (number 1 300000) 32) (λ _. item (number 1 100000) b) l s (c .number .last .self) (c .in-Continue-tick .tick) _ (c .in-Continue-tick .ensures tt .told) (c .in-Break-volume .ensures tt .told));
       input = c .number-2 .ensures .input ∙ c .number .ensures .input;
     }
 
@@ -36,6 +36,6 @@ returns c =
     let b = closeByte (c .args .end) in
     record {
       told = point-told l s b _
-        (then-on (item (number 1 300000) 32) (λ _. item (number 1 100000) b) l s (c .number .last .self) (c .in-Continue-tick .tick) _ (c .in-Continue-tick .ensures tt .told) (c .in-Continue-volume .ensures tt .told));
+          (then-on (item (number 1 300000) 32) (λ _. item (number 1 100000) b) l s (c .number .last .self) (c .in-Continue-tick .tick) _ (c .in-Continue-tick .ensures tt .told) (c .in-Continue-volume .ensures tt .told));
       input = c .number-2 .ensures .input ∙ c .number .ensures .input;
     }

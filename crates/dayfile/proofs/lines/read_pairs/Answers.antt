@@ -45,8 +45,7 @@ loop-i-again c =
     let q = c .in-Continue-list .field-0 in
     let m : n - i ≡ suc (n - (i + 1)) = omega (arith, c .loop-i-test .taken) in
     let r = c .in-Continue-list .ensures tt .told ∙ ap (λ b. pointText b .read l (s .at) (ahead s)) (c .end-at .ensures) in
-    let w = quotes-more (c .loop-i .list) i q (omega (arith, c .loop-i-test .taken, c .loop-i .kept .list)) in
-    (
+    let w = quotes-more (c .loop-i .list) i q (omega (arith, c .loop-i-test .taken, c .loop-i .kept .list)) in (
       ap (λ xs. before xs (many pointOn (n - (i + 1)) .read l (t .at) (ahead t))) w ∙ sym (many-on pointOn l (n - i) s (quotes (take i (c .loop-i .list))) (n - (i + 1)) m t (quoted q) r) ∙ c .loop-i .inv .0,
       c .read-pair .ensures .input ∙ c .loop-i .inv .1,
     )

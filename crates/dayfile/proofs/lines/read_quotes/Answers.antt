@@ -1,7 +1,7 @@
-use mathlib.Core.Path.{_≡_, sym, ap, _∙_}
+use mathlib.Core.Path.{_≡_, ap, _∙_}
 use Prim.Native.Nat.{_-_, _≤_}
 use native.Mathlib.Omega.{arith}
-use lib.ListN.{length, take, drop, replicate}
+use lib.ListN.{length, replicate}
 use Rattle.std.proofs.shelf.Lists.{length-take-le}
 use Rattle.std.proofs.shelf.Results.{made-from-err}
 use Rattle.book.specs.Drafted.{pairsOf}
@@ -20,7 +20,7 @@ returns-in-Break-count c =
     let s = c .args .reader .now in
     record {
       told = viewed-err pairsOf (c .from-residual .result) (c .in-Break-count .field-0 .0) (c .number .last .self) (c .from-residual .ensures .1) ∙ pairs-told l s _
-        (then-no (item (number 1 8) 32) (many pointOn) l s _ (c .in-Break-count .ensures tt .told));
+          (then-no (item (number 1 8) 32) (many pointOn) l s _ (c .in-Break-count .ensures tt .told));
       input = c .number .ensures .input;
       few = made-from-err (c .from-residual .result) (λ q. q .count ≤ 8) (c .from-residual .ensures .0);
     }
@@ -35,8 +35,8 @@ returns-in-Break-read-pairs c =
     let part = length-take-le (n - 0) (replicate 8 (record { tick = 0; volume = 0 })) (omega (arith, c .in-Continue-count .ensures tt .range)) ∙ omega arith in
     record {
       told = viewed-err pairsOf r (c .in-Break-read-pairs .field-0 .0) (c .read-pairs .last .reader) (c .from-residual-in-Break-read-pairs .ensures .1) ∙ pairs-told l s _
-        (then-on (item (number 1 8) 32) (many pointOn) l s t n _ (c .in-Continue-count .ensures tt .told)
-        (c .in-Break-read-pairs .ensures tt .told ∙ ap (λ k. many pointOn k .read l (t .at) (ahead t)) part));
+          (then-on (item (number 1 8) 32) (many pointOn) l s t n _ (c .in-Continue-count .ensures tt .told)
+          (c .in-Break-read-pairs .ensures tt .told ∙ ap (λ k. many pointOn k .read l (t .at) (ahead t)) part));
       input = c .read-pairs .ensures .input ∙ c .number .ensures .input;
       few = made-from-err r (λ q. q .count ≤ 8) (c .from-residual-in-Break-read-pairs .ensures .0);
     }
@@ -52,8 +52,8 @@ returns c =
     let all : length (c .read-pairs .last .list) ≡ n = c .read-pairs .kept .list ∙ part in
     record {
       told = ap (λ x. got x (u .at) (ahead u)) (front-pairs (c .read-pairs .last .list) _ n all) ∙ pairs-told l s _
-        (then-on (item (number 1 8) 32) (many pointOn) l s t n _ (c .in-Continue-count .ensures tt .told)
-        (c .in-Continue-read-pairs .ensures tt .told ∙ ap (λ k. many pointOn k .read l (t .at) (ahead t)) part));
+          (then-on (item (number 1 8) 32) (many pointOn) l s t n _ (c .in-Continue-count .ensures tt .told)
+          (c .in-Continue-read-pairs .ensures tt .told ∙ ap (λ k. many pointOn k .read l (t .at) (ahead t)) part));
       input = c .read-pairs .ensures .input ∙ c .number .ensures .input;
       few = c .in-Continue-count .ensures tt .range;
     }

@@ -18,7 +18,7 @@ returns-in-Break-kind c =
     let s = c .args .reader .now in
     record {
       told = viewed-err formOf (c .from-residual .result) (c .in-Break-kind .field-0 .0) (c .word .last .self) (c .from-residual .ensures .1) ∙ form-told l s _
-        (then-no (item kindWord 32) body l s _ (c .in-Break-kind .ensures tt .told));
+          (then-no (item kindWord 32) body l s _ (c .in-Break-kind .ensures tt .told));
       input = c .word .ensures .input;
       few = made-from-err (c .from-residual .result) (λ t. tooMany t ≡ false) (c .from-residual .ensures .0);
     }
@@ -31,8 +31,8 @@ returns-in-Break-volume c =
     let t = c .word .last .self in
     record {
       told = viewed-err formOf r (c .in-Break-volume .field-0 .0) (c .number .last .self) (c .from-residual-in-Break-volume .ensures .1) ∙ form-told l s _
-        (then-on (item kindWord 32) body l s t (c .in-Continue-kind .kind) _ (c .in-Continue-kind .ensures tt .told)
-        (ap (λ o. onward o (λ a q cs. got (flat a) q cs)) (c .in-Break-volume .ensures tt .told) ∙ ap (λ k. body k .read l (t .at) (ahead t)) (sym (c .in-Market .is))));
+          (then-on (item kindWord 32) body l s t (c .in-Continue-kind .kind) _ (c .in-Continue-kind .ensures tt .told)
+          (ap (λ o. onward o (λ a q cs. got (flat a) q cs)) (c .in-Break-volume .ensures tt .told) ∙ ap (λ k. body k .read l (t .at) (ahead t)) (sym (c .in-Market .is))));
       input = c .number .ensures .input ∙ c .word .ensures .input;
       few = made-from-err r (λ t. tooMany t ≡ false) (c .from-residual-in-Break-volume .ensures .0);
     }
@@ -44,8 +44,8 @@ returns-in-Continue-volume c =
     let t = c .word .last .self in
     record {
       told = form-told l s _
-        (then-on (item kindWord 32) body l s t (c .in-Continue-kind .kind) _ (c .in-Continue-kind .ensures tt .told)
-        (ap (λ o. onward o (λ a q cs. got (flat a) q cs)) (c .in-Continue-volume .ensures tt .told) ∙ ap (λ k. body k .read l (t .at) (ahead t)) (sym (c .in-Market .is))));
+          (then-on (item kindWord 32) body l s t (c .in-Continue-kind .kind) _ (c .in-Continue-kind .ensures tt .told)
+          (ap (λ o. onward o (λ a q cs. got (flat a) q cs)) (c .in-Continue-volume .ensures tt .told) ∙ ap (λ k. body k .read l (t .at) (ahead t)) (sym (c .in-Market .is))));
       input = c .number .ensures .input ∙ c .word .ensures .input;
       few = refl;
     }
@@ -58,8 +58,8 @@ returns-in-Break-steps c =
     let t = c .word .last .self in
     record {
       told = viewed-err formOf r (c .in-Break-steps .field-0 .0) (c .read-quotes .last .reader) (c .from-residual-in-Break-steps .ensures .1) ∙ form-told l s _
-        (then-on (item kindWord 32) body l s t (c .in-Continue-kind .kind) _ (c .in-Continue-kind .ensures tt .told)
-        (ap (λ o. onward o (λ a q cs. got (stairs a) q cs)) (c .in-Break-steps .ensures tt .told) ∙ ap (λ k. body k .read l (t .at) (ahead t)) (sym (c .in-Step .is))));
+          (then-on (item kindWord 32) body l s t (c .in-Continue-kind .kind) _ (c .in-Continue-kind .ensures tt .told)
+          (ap (λ o. onward o (λ a q cs. got (stairs a) q cs)) (c .in-Break-steps .ensures tt .told) ∙ ap (λ k. body k .read l (t .at) (ahead t)) (sym (c .in-Step .is))));
       input = c .read-quotes .ensures .input ∙ c .word .ensures .input;
       few = made-from-err r (λ t. tooMany t ≡ false) (c .from-residual-in-Break-steps .ensures .0);
     }
@@ -71,8 +71,8 @@ returns-in-Continue-steps c =
     let t = c .word .last .self in
     record {
       told = form-told l s _
-        (then-on (item kindWord 32) body l s t (c .in-Continue-kind .kind) _ (c .in-Continue-kind .ensures tt .told)
-        (ap (λ o. onward o (λ a q cs. got (stairs a) q cs)) (c .in-Continue-steps .ensures tt .told) ∙ ap (λ k. body k .read l (t .at) (ahead t)) (sym (c .in-Step .is))));
+          (then-on (item kindWord 32) body l s t (c .in-Continue-kind .kind) _ (c .in-Continue-kind .ensures tt .told)
+          (ap (λ o. onward o (λ a q cs. got (stairs a) q cs)) (c .in-Continue-steps .ensures tt .told) ∙ ap (λ k. body k .read l (t .at) (ahead t)) (sym (c .in-Step .is))));
       input = c .read-quotes .ensures .input ∙ c .word .ensures .input;
       few = le-ltb _ _ (c .in-Continue-steps .ensures tt .few);
     }
@@ -85,8 +85,8 @@ returns-in-Break-slopes c =
     let t = c .word .last .self in
     record {
       told = viewed-err formOf r (c .in-Break-slopes .field-0 .0) (c .read-quotes-in-Linear .last .reader) (c .from-residual-in-Break-slopes .ensures .1) ∙ form-told l s _
-        (then-on (item kindWord 32) body l s t (c .in-Continue-kind .kind) _ (c .in-Continue-kind .ensures tt .told)
-        (ap (λ o. onward o (λ a q cs. got (slopes a) q cs)) (c .in-Break-slopes .ensures tt .told) ∙ ap (λ k. body k .read l (t .at) (ahead t)) (sym (c .in-Linear .is))));
+          (then-on (item kindWord 32) body l s t (c .in-Continue-kind .kind) _ (c .in-Continue-kind .ensures tt .told)
+          (ap (λ o. onward o (λ a q cs. got (slopes a) q cs)) (c .in-Break-slopes .ensures tt .told) ∙ ap (λ k. body k .read l (t .at) (ahead t)) (sym (c .in-Linear .is))));
       input = c .read-quotes-in-Linear .ensures .input ∙ c .word .ensures .input;
       few = made-from-err r (λ t. tooMany t ≡ false) (c .from-residual-in-Break-slopes .ensures .0);
     }
@@ -98,8 +98,8 @@ returns-in-Continue-slopes c =
     let t = c .word .last .self in
     record {
       told = form-told l s _
-        (then-on (item kindWord 32) body l s t (c .in-Continue-kind .kind) _ (c .in-Continue-kind .ensures tt .told)
-        (ap (λ o. onward o (λ a q cs. got (slopes a) q cs)) (c .in-Continue-slopes .ensures tt .told) ∙ ap (λ k. body k .read l (t .at) (ahead t)) (sym (c .in-Linear .is))));
+          (then-on (item kindWord 32) body l s t (c .in-Continue-kind .kind) _ (c .in-Continue-kind .ensures tt .told)
+          (ap (λ o. onward o (λ a q cs. got (slopes a) q cs)) (c .in-Continue-slopes .ensures tt .told) ∙ ap (λ k. body k .read l (t .at) (ahead t)) (sym (c .in-Linear .is))));
       input = c .read-quotes-in-Linear .ensures .input ∙ c .word .ensures .input;
       few = le-ltb _ _ (c .in-Continue-slopes .ensures tt .few);
     }

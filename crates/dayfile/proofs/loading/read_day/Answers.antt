@@ -1,4 +1,4 @@
-use mathlib.Core.Path.{_≡_, _∙_}
+use mathlib.Core.Path.{_∙_}
 use Rattle.book.specs.Views.{setsOf, places}
 use Rattle.dayfile.specs.Loading.{openedBy}
 use Rattle.dayfile.specs.Views.{tickValues}
@@ -20,7 +20,7 @@ returns-in-Break-blocks c =
     let t = c .read-references .last .reader in
     record {
       told = viewed-err (openedBy _) (c .from-residual-in-Break-blocks .result) (c .in-Break-blocks .field-0 .0) (c .read-blocks .last .reader) (c .from-residual-in-Break-blocks .ensures .1)
-        ∙ blocks-refused s t (tickValues (c .in-Continue-references .references)) (c .in-Continue-references .ensures tt .told) _ (c .in-Break-blocks .ensures tt .told);
+          ∙ blocks-refused s t (tickValues (c .in-Continue-references .references)) (c .in-Continue-references .ensures tt .told) _ (c .in-Break-blocks .ensures tt .told);
       input = c .read-blocks .ensures .input ∙ c .read-references .ensures .input;
     }
 
@@ -31,7 +31,7 @@ returns-in-Break-given c =
     let u = c .read-blocks .last .reader in
     record {
       told = viewed-err (openedBy (places (c .read-orders .last .rows))) (c .from-residual-in-Break-given .result) (c .in-Break-given .field-0 .0) (c .read-orders .last .reader) (c .from-residual-in-Break-given .ensures .1)
-        ∙ orders-read s t (tickValues (c .in-Continue-references .references)) (c .in-Continue-references .ensures tt .told) u (setsOf (c .in-Continue-blocks .blocks)) (c .in-Continue-blocks .ensures tt .told) (c .len .result) (c .len .ensures) _ (c .in-Break-given .ensures tt .told);
+          ∙ orders-read s t (tickValues (c .in-Continue-references .references)) (c .in-Continue-references .ensures tt .told) u (setsOf (c .in-Continue-blocks .blocks)) (c .in-Continue-blocks .ensures tt .told) (c .len .result) (c .len .ensures) _ (c .in-Break-given .ensures tt .told);
       input = c .read-orders .ensures .input ∙ c .read-blocks .ensures .input ∙ c .read-references .ensures .input;
     }
 

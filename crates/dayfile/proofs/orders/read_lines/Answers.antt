@@ -55,8 +55,7 @@ loop-given-again c =
     let a = askedOf (c .in-Continue-draft .draft) in
     let m : n - i ≡ suc (n - (i + 1)) = omega (arith, c .loop-given-test .taken) in
     let done = c .in-Continue-enter-order .ensures tt in
-    let yes = checked-granted (lineRule k b) orderText (s .at) s t a (c .in-Continue-draft .ensures tt .told) (done .rule) in
-    (
+    let yes = checked-granted (lineRule k b) orderText (s .at) s t a (c .in-Continue-draft .ensures tt .told) (done .rule) in (
       ap (λ ps. leaving booked (bookOf ps (i + 1)) (stagedRead (orderLine k) booked (bookOf ps (i + 1)) (n - (i + 1)) 0 (t .at) (ahead t))) (done .leaves) ∙ sym (lines-on (orderLine k) booked b 0 (n - i) s (n - (i + 1)) m t a yes) ∙ c .loop-given .inv .0,
       c .read-order .ensures .input ∙ c .loop-given .inv .1,
     )

@@ -1,4 +1,4 @@
-use mathlib.Core.Path.{_≡_, ap, _∙_}
+use mathlib.Core.Path.{ap, _∙_}
 use Rattle.book.specs.Views.{places}
 use Rattle.text.specs.Staged.{leaving, stagedRead}
 use Rattle.text.specs.Tokens.{ahead}
@@ -23,7 +23,7 @@ returns-in-Break-read-lines c =
     let n = c .in-Continue-n .n in
     record {
       told = book-err (c .from-residual-in-Break-read-lines .result) (c .in-Break-read-lines .field-0 .0) (places (c .read-lines .last .rows)) (c .read-lines .last .reader) (c .from-residual-in-Break-read-lines .ensures .1) ∙ c .in-Break-read-lines .ensures tt .told
-        ∙ ap (λ ps. leaving booked (bookOf ps 0) (stagedRead (orderLine k) booked (bookOf ps 0) n 0 (t .at) (ahead t))) (c .pre .empty) ∙ orders-counted k s t n (c .in-Continue-n .ensures tt .told);
+          ∙ ap (λ ps. leaving booked (bookOf ps 0) (stagedRead (orderLine k) booked (bookOf ps 0) n 0 (t .at) (ahead t))) (c .pre .empty) ∙ orders-counted k s t n (c .in-Continue-n .ensures tt .told);
       input = c .read-lines .ensures .input ∙ c .read-count .ensures .input;
     }
 
@@ -35,6 +35,6 @@ returns c =
     let n = c .in-Continue-n .n in
     record {
       told = c .in-Continue-read-lines .ensures tt .told
-        ∙ ap (λ ps. leaving booked (bookOf ps 0) (stagedRead (orderLine k) booked (bookOf ps 0) n 0 (t .at) (ahead t))) (c .pre .empty) ∙ orders-counted k s t n (c .in-Continue-n .ensures tt .told);
+          ∙ ap (λ ps. leaving booked (bookOf ps 0) (stagedRead (orderLine k) booked (bookOf ps 0) n 0 (t .at) (ahead t))) (c .pre .empty) ∙ orders-counted k s t n (c .in-Continue-n .ensures tt .told);
       input = c .read-lines .ensures .input ∙ c .read-count .ensures .input;
     }

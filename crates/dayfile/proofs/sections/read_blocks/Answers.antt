@@ -1,4 +1,4 @@
-use mathlib.Core.Path.{_≡_, sym, _∙_}
+use mathlib.Core.Path.{sym, _∙_}
 use lib.Chars.{codes}
 use Rattle.faults.specs.Answers.{viewed}
 use Rattle.book.specs.Views.{setsOf}
@@ -15,7 +15,7 @@ returns-in-Break-n c =
     let s = c .args .reader .now in
     record {
       told = viewed-err setsOf (c .from-residual .result) (c .in-Break-n .field-0 .0) (c .read-count .last .reader) (c .from-residual .ensures .1) ∙ blocks-told s _
-        (then-no (countText (codes "blocks") 0 14) (many setLine) 0 s _ (c .in-Break-n .ensures tt .told));
+          (then-no (countText (codes "blocks") 0 14) (many setLine) 0 s _ (c .in-Break-n .ensures tt .told));
       input = c .read-count .ensures .input;
     }
 
@@ -26,6 +26,6 @@ returns c =
     let n = c .in-Continue-n .n in
     record {
       told = sym (second n (told (viewed setsOf (c .read-sets .result)) (c .read-sets .last .reader))) ∙ blocks-told s _
-        (then-on (countText (codes "blocks") 0 14) (many setLine) 0 s t n _ (c .in-Continue-n .ensures tt .told) (c .read-sets .ensures .told));
+          (then-on (countText (codes "blocks") 0 14) (many setLine) 0 s t n _ (c .in-Continue-n .ensures tt .told) (c .read-sets .ensures .told));
       input = c .read-sets .ensures .input ∙ c .read-count .ensures .input;
     }

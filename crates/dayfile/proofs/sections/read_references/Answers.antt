@@ -1,4 +1,4 @@
-use mathlib.Core.Path.{_≡_, sym, ap, _∙_}
+use mathlib.Core.Path.{_≡_, ap, _∙_}
 use native.Mathlib.Omega.{arith}
 use lib.Chars.{codes}
 use Rattle.text.specs.Staged.{many}
@@ -15,7 +15,7 @@ returns-in-Break-read-count c =
     let s = c .args .reader .now in
     record {
       told = viewed-err tickValues (c .from-residual .result) (c .in-Break-read-count .field-0 .0) (c .read-count .last .reader) (c .from-residual .ensures .1) ∙ hours-told s _
-        (then-no (countText (codes "hours") 24 24) tickLine 0 s _ (c .in-Break-read-count .ensures tt .told));
+          (then-no (countText (codes "hours") 24 24) tickLine 0 s _ (c .in-Break-read-count .ensures tt .told));
       input = c .read-count .ensures .input;
     }
 
@@ -28,8 +28,8 @@ returns-in-Break-read-ticks c =
     let e : 24 ≡ n = omega (arith, fits .0, fits .1) in
     record {
       told = viewed-err tickValues (c .from-residual-in-Break-read-ticks .result) (c .in-Break-read-ticks .field-0 .0) (c .read-ticks .last .reader) (c .from-residual-in-Break-read-ticks .ensures .1) ∙ hours-told s _
-        (then-on (countText (codes "hours") 24 24) tickLine 0 s t n _ (c .in-Continue-read-count .ensures tt .told)
-        (c .in-Break-read-ticks .ensures tt .told ∙ ap (λ k. many tickOn k .read (t .at) (t .at) (ahead t)) e));
+          (then-on (countText (codes "hours") 24 24) tickLine 0 s t n _ (c .in-Continue-read-count .ensures tt .told)
+          (c .in-Break-read-ticks .ensures tt .told ∙ ap (λ k. many tickOn k .read (t .at) (t .at) (ahead t)) e));
       input = c .read-ticks .ensures .input ∙ c .read-count .ensures .input;
     }
 
@@ -42,7 +42,7 @@ returns c =
     let e : 24 ≡ n = omega (arith, fits .0, fits .1) in
     record {
       told = hours-told s _
-        (then-on (countText (codes "hours") 24 24) tickLine 0 s t n _ (c .in-Continue-read-count .ensures tt .told)
-        (c .in-Continue-read-ticks .ensures tt .told ∙ ap (λ k. many tickOn k .read (t .at) (t .at) (ahead t)) e));
+          (then-on (countText (codes "hours") 24 24) tickLine 0 s t n _ (c .in-Continue-read-count .ensures tt .told)
+          (c .in-Continue-read-ticks .ensures tt .told ∙ ap (λ k. many tickOn k .read (t .at) (t .at) (ahead t)) e));
       input = c .read-ticks .ensures .input ∙ c .read-count .ensures .input;
     }

@@ -1,25 +1,22 @@
 use mathlib.Core.Path.{_≡_, refl, sym, ap, _∙_}
-use mathlib.Core.List.{[], _∷_, _++_}
 use Prim.Native.Nat.{suc, _+_, _-_, _<_}
 use native.Mathlib.Omega.{arith}
 use lib.ListN.{length}
 use Rattle.std.proofs.shelf.Lists.{length-push}
 use Rattle.book.specs.Views.{setsOf}
-use Rattle.text.specs.Format.{got}
 use Rattle.text.specs.Staged.{many}
 use Rattle.text.specs.Tokens.{ahead}
 use Rattle.text.proofs.Turns.{before, before-none, many-on, many-no, many-done}
 use Rattle.dayfile.specs.Day.{setLine}
 use Rattle.dayfile.proofs.Chains.{viewed-err}
-use Rattle.dayfile.proofs.Parts.{number-fits, push-granted, push-adds}
+use Rattle.dayfile.proofs.Parts.{number-fits, push-adds}
 use Rattle.dayfile.proofs.sections.read_sets.Needs as need
 
 pub loop-i-holds : need.loop-i-holds
 loop-i-holds c =
     let n = c .args .n in
     let s = c .args .reader .now in
-    let z : n - 0 ≡ n = omega arith in
-    (
+    let z : n - 0 ≡ n = omega arith in (
       ap (λ m. before (setsOf (c .none-blocks .result)) (many setLine m .read 0 (s .at) (ahead s))) z ∙ ap (λ xs. before xs (many setLine n .read 0 (s .at) (ahead s))) (c .none-blocks .ensures) ∙ before-none (many setLine n .read 0 (s .at) (ahead s)),
       ap length (c .none-blocks .ensures),
       refl,
@@ -47,8 +44,7 @@ loop-i-again c =
     let m : n - i ≡ suc (n - (i + 1)) = omega (arith, c .loop-i-test .taken) in
     let fits = number-fits 1 16777215 10 (s .at) s h (t .at) (ahead t) (omega arith) refl (c .in-Continue-hours .ensures tt .told) in
     let few : length sets < 14 = omega (arith, c .loop-i .inv .1, c .loop-i-test .taken, c .pre) in
-    let w = c .push .ensures .leaves ∙ push-adds sets h (fits .0) (fits .1) few in
-    (
+    let w = c .push .ensures .leaves ∙ push-adds sets h (fits .0) (fits .1) few in (
       ap (λ xs. before xs (many setLine (n - (i + 1)) .read 0 (t .at) (ahead t))) w ∙ sym (many-on setLine 0 (n - i) s sets (n - (i + 1)) m t h (c .in-Continue-hours .ensures tt .told)) ∙ c .loop-i .inv .0,
       ap length w ∙ length-push sets h ∙ ap (λ k. k + 1) (c .loop-i .inv .1),
       c .number .ensures .input ∙ c .loop-i .inv .2,

@@ -46,8 +46,7 @@ loop-i-again c =
     let q = c .in-Continue-list .field-0 in
     let m : n - i ≡ suc (n - (i + 1)) = omega (arith, c .loop-i-test .taken) in
     let r = c .in-Continue-list .ensures tt .told ∙ ap (λ b. item (number 1 300000) b .read l (s .at) (ahead s)) (c .end-at .ensures) in
-    let w = ticks-more (c .loop-i .list) i q (omega (arith, c .loop-i-test .taken, c .loop-i .kept .list)) in
-    (
+    let w = ticks-more (c .loop-i .list) i q (omega (arith, c .loop-i-test .taken, c .loop-i .kept .list)) in (
       ap (λ xs. before xs (many tickOn (n - (i + 1)) .read l (t .at) (ahead t))) w ∙ sym (many-on tickOn l (n - i) s (tickValues (take i (c .loop-i .list))) (n - (i + 1)) m t (q .value) r) ∙ c .loop-i .inv .0,
       c .read-tick .ensures .input ∙ c .loop-i .inv .1,
     )

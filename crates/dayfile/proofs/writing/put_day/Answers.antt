@@ -19,5 +19,8 @@ returns c =
     let h = hoursText .text (tickValues (o .references)) in
     let b = blocksText .text (setsOf (o .blocks)) in
     let t = tableText (sequence (places rows)) in
-    record { wrote = put-same (h ++ (b ++ t)) (dayText .text d) (sym (day-text d))
-    (put-on h (b ++ t) (c .put-references-blocks .ensures) (put-on b t (c .put-blocks-table .ensures) (c .put-table .ensures))); hours = search needs }
+    record {
+      wrote = put-same (h ++ (b ++ t)) (dayText .text d) (sym (day-text d))
+          (put-on h (b ++ t) (c .put-references-blocks .ensures) (put-on b t (c .put-blocks-table .ensures) (c .put-table .ensures)));
+      hours = search needs;
+    }

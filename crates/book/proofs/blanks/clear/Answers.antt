@@ -3,7 +3,7 @@ use mathlib.Core.List.{_∷_, [], _++_}
 use native.Mathlib.Omega.{arith}
 use lib.ListN.{length, replicate}
 use Rattle.std.proofs.shelf.Lists.{take-more-set, take-all, replicate-more}
-use Rattle.dayfile.proofs.blanks.clear.Needs as need
+use Rattle.book.proofs.blanks.clear.Needs as need
 
 pub loop-i-again : need.loop-i-again
 loop-i-again g c =

@@ -1,8 +1,8 @@
 // Tables that can be emptied.
 ghost use mathlib.Core.Path.{_≡_};
 ghost use lib.ListN.{length, replicate};
 ghost use Rattle.book.specs.declared.rows.Row.the-variants.{Empty};
-use book::rows::Row;
+use crate::rows::Row;
 
 // A place of a table, which holds nothing at first.
 pub trait Blank: Copy {
