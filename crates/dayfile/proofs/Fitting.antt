@@ -117,9 +117,8 @@ unfolding dayText
 day-returns refs sets ps n r m s h =
     let d = dayOf refs sets ps in
     let fits : dayText .Fits d = (hours-fit refs n r, (blocks-fit sets m s, orders-fit (length sets) ps h)) in
-    let zero-on : 0 + length (dayText .text d) ≡ length (dayText .text d) = omega arith in
     record {
-      loads = λ cs. faithful-day .full 0 0 d cs fits ∙ ap (λ k. got d k cs) zero-on;
+      loads = λ l p cs. faithful-day .full l p d cs fits;
       stands = stands (length sets) (sequence ps) (sequence-enters (length sets) (order-fits (length sets)) ps h);
     }
 
@@ -132,12 +131,12 @@ unfolding dayText ordersText
 orders-stages d h = h .1 .1 .1 .1
 
 pub loads-its-text : LoadsItsText
-loads-its-text bs d q cs e =
-    let f = faithful-day .sound 0 0 bs d q cs e in
+loads-its-text l p bs d q cs e =
+    let f = faithful-day .sound l p bs d q cs e in
     let s = stands (length (d .sets)) (d .orders) (orders-stages d (f .2)) in
     let same : d ≡ dayOf (d .references) (d .sets) (tableOf (d .orders)) = ap (λ xs. record { references = d .references; sets = d .sets; orders = xs }) (sym (s .orders)) in
     record {
       text = f .0 ∙ ap (λ x. dayText .text x ++ cs) same;
-      reached = f .1 ∙ omega arith ∙ ap (λ x. length (dayText .text x)) same;
+      reached = f .1 ∙ ap (λ x. p + length (dayText .text x)) same;
       stands = s;
     }

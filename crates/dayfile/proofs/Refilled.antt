@@ -23,7 +23,7 @@ use Rattle.dayfile.specs.Lines.{orderText}
 use Rattle.dayfile.specs.Day.{Book, emptyBook, emptyPlaces, booked, ruling, lineRule, orderLine}
 use Rattle.dayfile.specs.Sequence.{orderAt, placed, stamped, unstamped, numbered, sequence}
 use Rattle.dayfile.specs.Entered.{tableOf, Stands, Holding, Proper}
-use Rattle.dayfile.proofs.Ordering.{Below, written-last, below-set, below-more, unstamped-numbered}
+use Rattle.dayfile.proofs.Ordering.{Below, length-placed, written-last, below-set, below-more, unstamped-numbered}
 
 -- what it takes to be entered
 pub record Free (ps : List Place) (g : ℕ) (a : Asked) : Type 0 where
@@ -163,11 +163,6 @@ blocks-placed x [] = refl
 blocks-placed x (y ∷ ys) =
     let ih = blocks-placed x ys in
     elim (leb (x .0) (y .0)) as (λ t. blocksOf (unstamped (cond t (x ∷ (y ∷ ys)) (y ∷ placed x ys))) ≡ one (isBlock (x .1 .product)) + (one (isBlock (y .1 .product)) + blocksOf (unstamped ys))) [ true ↦ refl | false ↦ omega arith ]
-
-length-placed : (x : ℕ × Asked) (ys : List (ℕ × Asked)) → length (unstamped (placed x ys)) ≡ suc (length (unstamped ys))
-length-placed x [] = refl
-length-placed x (y ∷ ys) =
-    elim (leb (x .0) (y .0)) as (λ t. length (unstamped (cond t (x ∷ (y ∷ ys)) (y ∷ placed x ys))) ≡ suc (suc (length (unstamped ys)))) [ true ↦ refl | false ↦ ap suc (length-placed x ys) ]
 
 -- and so does a table
 absent-stamped : (r i : ℕ) (ps : List Place) → r < i → Absent r (unstamped (stamped i ps))

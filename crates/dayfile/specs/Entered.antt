@@ -37,16 +37,16 @@ pub record Proper (n : ℕ) (ps : List Place) : Type 0 where
   pub lawful : Holding (λ a. verdict n a ≡ Ok tt) 0 ps
   pub few : blocksHeld ps ≤ 32
 
--- a text that is accepted is, up to the place reached, the text of the day that it leaves
-pub record Accepted (bs : List ℕ) (d : DayText) (q : ℕ) (cs : List ℕ) : Type 0 where
+-- a text at the place p that is accepted is, up to the place reached, the text of the day that it leaves
+pub record Accepted (p : ℕ) (bs : List ℕ) (d : DayText) (q : ℕ) (cs : List ℕ) : Type 0 where
   pub text : bs ≡ dayText .text (dayOf (d .references) (d .sets) (tableOf (d .orders))) ++ cs
-  pub reached : q ≡ length (dayText .text (dayOf (d .references) (d .sets) (tableOf (d .orders))))
+  pub reached : q ≡ p + length (dayText .text (dayOf (d .references) (d .sets) (tableOf (d .orders))))
   pub stands : Stands (d .orders)
 
 abbrev pub LoadsItsText : Type 0
-LoadsItsText = (bs : List ℕ) (d : DayText) (q : ℕ) (cs : List ℕ) → dayText .read 0 0 bs ≡ got d q cs → Accepted bs d q cs
+LoadsItsText = (l p : ℕ) (bs : List ℕ) (d : DayText) (q : ℕ) (cs : List ℕ) → dayText .read l p bs ≡ got d q cs → Accepted p bs d q cs
 
--- the text of a day is read back whatever follows it, and leaves the same orders in the same sequence
+-- the text of a day is read back wherever it stands and whatever follows it, and leaves the same orders in the same sequence
 pub record Returns (d : DayText) : Type 0 where
-  pub loads : (cs : List ℕ) → dayText .read 0 0 (dayText .text d ++ cs) ≡ got d (length (dayText .text d)) cs
+  pub loads : (l p : ℕ) (cs : List ℕ) → dayText .read l p (dayText .text d ++ cs) ≡ got d (p + length (dayText .text d)) cs
   pub stands : Stands (d .orders)

@@ -1,0 +1,13 @@
+pub mod Uptos
+pub mod Lowest
+pub mod Settling
+pub mod Tabled
+pub mod Collected
+pub mod Plain
+pub mod Keeping
+pub mod Cleared
+pub mod Hourly
+pub mod Joined
+pub mod Rowed
+pub mod Shares
+pub mod Balanced

@@ -1,0 +1,11 @@
+pub mod Upto
+pub mod Results
+pub mod Hours
+pub mod Verdicts
+pub mod Rounds
+pub mod Blocks
+pub mod Clearing
+pub mod Fixing
+pub mod BlockPrice
+pub mod Claims
+pub mod Sharing
