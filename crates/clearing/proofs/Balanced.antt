@@ -74,10 +74,10 @@ cleared ps sets ms h r filled within f =
     let same = blocks-length sets ps in
     record {
       standing = λ k l.
-        ap (λ m. isKept (getD m k Kept)) (f .marks-are)
-        ∙ mark-kept (o .rounds) (getD (o .marks) k Kept) (λ q c e. s .failed k q c (omega (arith, same)) e .1)
-        ∙ sym (getD-stood (o .rounds) (o .marks) k (omega (arith, same, s .long)))
-        ∙ ap (λ x. getD x k false) (sym (s .last));
+          ap (λ m. isKept (getD m k Kept)) (f .marks-are)
+          ∙ mark-kept (o .rounds) (getD (o .marks) k Kept) (λ q c e. s .failed k q c (omega (arith, same)) e .1)
+          ∙ sym (getD-stood (o .rounds) (o .marks) k (omega (arith, same, s .long)))
+          ∙ ap (λ x. getD x k false) (sym (s .last));
       result-is = f .result-is ∙ tabled-at (resultOf ps bs refs fs) dayHours h noResult within;
       fails-not = λ k l. ap (λ x. roundVerdict bs (resultsOf ps bs refs) x k) (s .last) ∙ s .done k (omega (arith, same));
     }
@@ -112,10 +112,15 @@ limit-stamp false b t f a e = let z : _≡_ {A = ℕ} 0 1 = cc in absurd (omega 
 
 claim-stamp : (sets : List ℕ) (f : Bool) (s : Side) (h t : ℕ) (p : Place) → 0 < rowKind .asks (claimOut (blockClaim f s h (blockOf sets p)) (marketOf (h + 1) s p) (limitOf (h + 1) s t p)) → (b : Bid) × ((p ≡ held b) × (rowKind .stamp (claimOut (blockClaim f s h (blockOf sets p)) (marketOf (h + 1) s p) (limitOf (h + 1) s t p)) ≡ b .stamp))
 claim-stamp sets f s h t vacant some = absurd (omega arith)
-claim-stamp sets f s h t (held b) some =
-    (b, (refl, stamp-out (b .stamp) _ _ _
-      (block-claim-stamp f s h (blockOf sets (held b)) (b .stamp) (λ k e. let found = block-stamp sets (held b) k e in found .1 .1 ∙ ap (λ (q : Place). elim q [ vacant ↦ 0 | held c ↦ c .stamp ]) (sym (found .1 .0))))
-      (market-stamp (bidsIn (h + 1) s b) b (b .offer .form)) (limit-stamp (bidsIn (h + 1) s b) b t (b .offer .form)) some))
+claim-stamp sets f s h t (held b) some = (
+  b,
+  (
+    refl,
+    stamp-out (b .stamp) _ _ _
+        (block-claim-stamp f s h (blockOf sets (held b)) (b .stamp) (λ k e. let found = block-stamp sets (held b) k e in found .1 .1 ∙ ap (λ (q : Place). elim q [ vacant ↦ 0 | held c ↦ c .stamp ]) (sym (found .1 .0))))
+        (market-stamp (bidsIn (h + 1) s b) b (b .offer .form)) (limit-stamp (bidsIn (h + 1) s b) b t (b .offer .form)) some,
+  ),
+)
 
 module _ (ps : List Place) (sets : List ℕ) (ms : List Mark) (h t : ℕ) (side : Side) (within : h < 24) where
   pub distinct : Stamped ps → Distinct (rowKind .asks) (rowKind .stamp) (rowClaims ps sets ms h t side)
@@ -136,15 +141,15 @@ pick Sell b s = s
 
 side-buy : (b s : ℕ) → surplusSide b s ≡ Buy → s < b
 side-buy b s e = elim (cases-lt s b) [
-    inl l ↦ l
+  | inl l ↦ l
   | inr g ↦ let no : surplusSide b s ≡ Sell = ap (λ q. cond q Buy Sell) (le-ltb s b g) in let z : _≡_ {A = ℕ} 0 1 = cc in absurd (omega arith)
-  ]
+]
 
 side-sell : (b s : ℕ) → surplusSide b s ≡ Sell → b ≤ s
 side-sell b s e = elim (cases-lt s b) [
-    inl l ↦ let no : surplusSide b s ≡ Buy = ap (λ q. cond q Buy Sell) (lt-ltb s b l) in let z : _≡_ {A = ℕ} 0 1 = cc in absurd (omega arith)
+  | inl l ↦ let no : surplusSide b s ≡ Buy = ap (λ q. cond q Buy Sell) (lt-ltb s b l) in let z : _≡_ {A = ℕ} 0 1 = cc in absurd (omega arith)
   | inr g ↦ g
-  ]
+]
 
 adds-up : (side rs : Side) (b s e x filled total : ℕ) → (rs ≡ Buy → s < b) → (rs ≡ Sell → b ≤ s) → e ≡ min b s → x ≡ (b - s) + (s - b) → filled ≤ x → b ≤ 51200000 → s ≤ 51200000 → total ≡ pick side b s → min (cond (sameSide side rs) (min (e + filled) 18446744073709551615) e) total ≡ cond (sameSide side rs) (e + filled) e
 adds-up Buy Buy b s e x filled total lo hi ee ex h fb fs t = let l : s < b = lo refl in omega arith
@@ -319,10 +324,10 @@ module _ (rows : List Row) (sets : List ℕ) (ms : List Mark) (h : ℕ) (r : Hou
   own k b l is =
       let on : Side → ℕ = λ side. getD (sharesOn ps sets ms h r filled side) k 0 in
       let none : (side : Side) → sameSide side (b .offer .side) ≡ false → on side ≡ 0 = λ side off.
-        share-at ps sets ms h (r .price) side within (sharedOut r filled side) k l
-        ∙ ap (λ p. shareOf (rowKind .asks) (rowKind .before) (sharedOut r filled side) (rowClaims ps sets ms h (r .price) side) (claimOut (blockClaim (isKept (getD ms k Kept)) side h (blockOf sets p)) (marketOf (h + 1) side p) (limitOf (h + 1) side (r .price) p))) is
-        ∙ ap (shareOf (rowKind .asks) (rowKind .before) (sharedOut r filled side) (rowClaims ps sets ms h (r .price) side)) (claim-off sets (isKept (getD ms k Kept)) side h (r .price) b off (flip side (b .offer .side) off))
-        ∙ omega arith in
+      share-at ps sets ms h (r .price) side within (sharedOut r filled side) k l
+      ∙ ap (λ p. shareOf (rowKind .asks) (rowKind .before) (sharedOut r filled side) (rowClaims ps sets ms h (r .price) side) (claimOut (blockClaim (isKept (getD ms k Kept)) side h (blockOf sets p)) (marketOf (h + 1) side p) (limitOf (h + 1) side (r .price) p))) is
+      ∙ ap (shareOf (rowKind .asks) (rowKind .before) (sharedOut r filled side) (rowClaims ps sets ms h (r .price) side)) (claim-off sets (isKept (getD ms k Kept)) side h (r .price) b off (flip side (b .offer .side) off))
+      ∙ omega arith in
       tabled-at (λ j. max (getD (sharesOn ps sets ms h r filled Buy) j 0) (getD (sharesOn ps sets ms h r filled Sell) j 0)) (length ps) k 0 l
       ∙ one-side (b .offer .side) (on Buy) (on Sell) (none Buy) (none Sell) ∙ picked (b .offer .side) on
 

@@ -111,10 +111,10 @@ module _ (ps : List Place) (sets refs : List ℕ) where
         failed = λ k q c h e. s .failed k q c (omega (arith, same)) e;
         lowest = λ k q c h e j other l f. s .lowest k q c (omega (arith, same)) e j other (omega (arith, same)) f;
         higher = λ apart k q c h e j other l ne f.
-          let low = s .lowest k q c (omega (arith, same)) e j other (omega (arith, same)) f in
-          let here = block-at (stood q ms) k c h (s .failed k q c (omega (arith, same)) e .2) in
-          let there = block-at (stood q ms) j other l f in
-          goes-other-way (blocksBefore bs k j) (blocksBefore bs j k)
+            let low = s .lowest k q c (omega (arith, same)) e j other (omega (arith, same)) f in
+            let here = block-at (stood q ms) k c h (s .failed k q c (omega (arith, same)) e .2) in
+            let there = block-at (stood q ms) j other l f in
+            goes-other-way (blocksBefore bs k j) (blocksBefore bs j k)
             (ranking .decided (claimAt bs k) (claimAt bs j) (λ stamps. ne (sym (apart .apart k j (here .0) (there .0) (here .1 .0) (there .1 .0) (sym (here .1 .1) ∙ stamps ∙ there .1 .1))))) low;
       }
 

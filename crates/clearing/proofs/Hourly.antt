@@ -16,7 +16,7 @@ pub some-hour : (n hours : ℕ) → 1 ≤ hours → hours < 2 ^ n → 1 ≤ over
 unfolding upto
 some-hour zero hours p l = absurd (omega arith)
 some-hour (suc n) hours p l = elim (cases-lt hours (2 ^ n)) [
-    inl s ↦ omega (arith, some-hour n hours p s)
+  | inl s ↦ omega (arith, some-hour n hours p s)
   | inr g ↦
       let pos : 0 < 2 ^ n = pow-pos n in
       let double : 2 ^ suc n ≡ 2 ^ n * 2 = pow-suc 2 n in
@@ -25,4 +25,4 @@ some-hour (suc n) hours p l = elim (cases-lt hours (2 ^ n)) [
       let one : hours / 2 ^ n ≡ 1 = omega arith in
       let digit : inHour hours n ≡ true = ap (λ q. eqb (q % 2) 1) one in
       omega (arith, ap {B = ℕ} (λ b. cond b 1 0) digit)
-  ]
+]

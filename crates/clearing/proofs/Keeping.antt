@@ -36,9 +36,9 @@ adds-out f g s h (Some b) out =
 module _ (bs : List (Option Block)) (fs : List Bool) (i : ℕ) (v : Bool) (h : ℕ) (out : hasHour h (getD bs i None) ≡ false) where
   adds-same : (s : Side) (k : ℕ) → adds bs (set fs i v) s h k ≡ adds bs fs s h k
   adds-same s k = elim (cases-eq k i) [
-      inl e ↦ adds-out (getD (set fs i v) k false) (getD fs k false) s h (getD bs k None) (ap (λ j. hasHour h (getD bs j None)) e ∙ out)
+    | inl e ↦ adds-out (getD (set fs i v) k false) (getD fs k false) s h (getD bs k None) (ap (λ j. hasHour h (getD bs j None)) e ∙ out)
     | inr d ↦ ap (λ f. addsOf f s h (getD bs k None)) (getD-set-other fs i k v false d)
-    ]
+  ]
 
   load-same : (s : Side) → loadOf bs (set fs i v) s h ≡ loadOf bs fs s h
   load-same s = ap (λ f. upto f (length bs)) (fun-ext (adds-same s))

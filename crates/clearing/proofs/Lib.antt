@@ -11,3 +11,4 @@ pub mod Joined
 pub mod Rowed
 pub mod Shares
 pub mod Balanced
+pub mod Figured

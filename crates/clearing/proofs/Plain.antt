@@ -84,7 +84,7 @@ module _ (rows : List Row) (hour bl sl ref : ℕ) where
         let bfew : (t : ℕ) → b t ≤ 25600000 = λ t. omega (arith, book-few hour Buy rows t) in
         let sfew : (t : ℕ) → s t ≤ 25600000 = λ t. omega (arith, book-few hour Sell rows t) in
         granted (ltb 256 (length rows)) (badHour hour) (ltb 100000000 (b 1 + bl)) (ltb 100000000 (s 300000 + sl)) (badTick ref) wrongLength outOfRange (triple (λ t. capped bl (b t)) (λ t. capped sl (s t)) ref)
-            (le-ltb _ _ few) (or-from _ _ (le-ltb _ _ first) (le-ltb _ _ last)) (le-ltb _ _ (omega (arith, bfew 1))) (le-ltb _ _ (omega (arith, sfew 300000))) (or-from _ _ (le-ltb _ _ low) (le-ltb _ _ high))
+        (le-ltb _ _ few) (or-from _ _ (le-ltb _ _ first) (le-ltb _ _ last)) (le-ltb _ _ (omega (arith, bfew 1))) (le-ltb _ _ (omega (arith, sfew 300000))) (or-from _ _ (le-ltb _ _ low) (le-ltb _ _ high))
         ∙ ap (λ (f : ℕ → ℕ). Ok (triple f (λ t. capped sl (s t)) ref)) (uncapped b bl bfew fewb) ∙ ap (λ (f : ℕ → ℕ). Ok (triple (λ t. b t + bl) f ref)) (uncapped s sl sfew fews)
 
 -- an hour's result from the loads of its two sides and its reference value
@@ -96,9 +96,9 @@ withLoads ps number bl sl ref =
 
 side-same : (b s : ℕ) → surplusSide b (min b s) ≡ surplusSide b s
 side-same b s = elim (cases-lt s b) [
-    inl l ↦ ap (λ x. cond x Buy Sell) (lt-ltb (min b s) b (omega arith) ∙ sym (lt-ltb s b l))
+  | inl l ↦ ap (λ x. cond x Buy Sell) (lt-ltb (min b s) b (omega arith) ∙ sym (lt-ltb s b l))
   | inr g ↦ ap (λ x. cond x Buy Sell) (le-ltb (min b s) b (omega arith) ∙ sym (le-ltb s b g))
-  ]
+]
 
 abbrev result : ℕ → ℕ → ℕ → Side → HourResult
 result p e x side = record { price = p; executed = e; surplus = x; side = side }

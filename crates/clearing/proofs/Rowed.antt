@@ -135,7 +135,7 @@ module _ (ps : List Place) (sets : List ℕ) (ms : List Mark) (fs : List Bool) (
       let f : ℕ → ℕ = adds (blocksOf sets ps) fs side h in
       let g : ℕ → ℕ = λ k. placeShows (h + 1) side (placeAt ps k) t in
       let each : (k : ℕ) → k < length ps → rowKind .asks (rowClaim ps sets ms h t side k) ≡ f k + g k = λ k l.
-        asks-out blockKind marketKind limitKind _ _ _ (one-claim sets (isKept (getD ms k Kept)) side h t (placeAt ps k) within)
-        ∙ omega (arith, block-adds k l, place-asks (h + 1) side t (placeAt ps k)) in
+      asks-out blockKind marketKind limitKind _ _ _ (one-claim sets (isKept (getD ms k Kept)) side h t (placeAt ps k) within)
+      ∙ omega (arith, block-adds k l, place-asks (h + 1) side t (placeAt ps k)) in
       sum-tabled (rowKind .asks) (rowClaim ps sets ms h t side) (length ps) ∙ upto-same _ (λ k. f k + g k) (length ps) each ∙ upto-both f g (length ps)
       ∙ omega (arith, ap (upto f) (blocks-length sets ps), book-upto (h + 1) side ps t)

@@ -41,29 +41,41 @@ not-some o c p q = cc
 
 module _ (v : ℕ → Option Cause) (b : ℕ → ℕ → Bool) (same : (k : ℕ) → b k k ≡ false) (chain : (i j k : ℕ) → b i j ≡ true → b j k ≡ true → b i k ≡ true) where
   low-step : (n : ℕ) (w : ℕ × Cause) (c : Cause) (r : Bool) → b (w .0) n ≡ r → v n ≡ Some c → Low v b n (Some w) → Low v b (suc n) (cond r (Some (n, c)) (Some w))
-  low-step n w c true e h low =
-      (omega arith, h, λ j d l k. elim (cases-lt j n) [
-        inl s ↦ false-unless (b n j) (λ t. sym (chain (w .0) n j e t) ∙ low .2 j d s k)
+  low-step n w c true e h low = (
+    omega arith,
+    h,
+    λ j d l k. elim (cases-lt j n) [
+      | inl s ↦ false-unless (b n j) (λ t. sym (chain (w .0) n j e t) ∙ low .2 j d s k)
       | inr g ↦ let z : j ≡ n = omega arith in ap (b n) z ∙ same n
-      ])
-  low-step n w c false e h low =
-      (omega (arith, low .0), low .1, λ j d l k. elim (cases-lt j n) [
-        inl s ↦ low .2 j d s k
+    ],
+  )
+  low-step n w c false e h low = (
+    omega (arith, low .0),
+    low .1,
+    λ j d l k. elim (cases-lt j n) [
+      | inl s ↦ low .2 j d s k
       | inr g ↦ let z : j ≡ n = omega arith in ap (b (w .0)) z ∙ e
-      ])
+    ],
+  )
 
   low-more : (n : ℕ) (o : Option (ℕ × Cause)) (x : Option Cause) → v n ≡ x → Low v b n o → Low v b (suc n) (lowerOf b o n x)
   low-more n None None e low = λ j l. elim (cases-lt j n) [ inl s ↦ low j s | inr g ↦ let z : j ≡ n = omega arith in ap v z ∙ e ]
-  low-more n (Some w) None e low =
-      (omega (arith, low .0), low .1, λ j d l k. elim (cases-lt j n) [
-        inl s ↦ low .2 j d s k
+  low-more n (Some w) None e low = (
+    omega (arith, low .0),
+    low .1,
+    λ j d l k. elim (cases-lt j n) [
+      | inl s ↦ low .2 j d s k
       | inr g ↦ let z : j ≡ n = omega arith in false-unless (b (w .0) j) (λ _. not-some (v n) d e (ap v (sym z) ∙ k))
-      ])
-  low-more n None (Some c) e low =
-      (omega arith, e, λ j d l k. elim (cases-lt j n) [
-        inl s ↦ false-unless (b n j) (λ _. not-some (v j) d (low j s) k)
+    ],
+  )
+  low-more n None (Some c) e low = (
+    omega arith,
+    e,
+    λ j d l k. elim (cases-lt j n) [
+      | inl s ↦ false-unless (b n j) (λ _. not-some (v j) d (low j s) k)
       | inr g ↦ let z : j ≡ n = omega arith in ap (b n) z ∙ same n
-      ])
+    ],
+  )
   low-more n (Some w) (Some c) e low = low-step n w c (b (w .0) n) refl e low
 
   pub lowest-low : (n : ℕ) → Low v b n (lowestUpto v b n)
@@ -122,7 +134,7 @@ stood-same q r c ms i h kept le =
 stood-next : (r : ℕ) (c : Cause) (ms : List Mark) (i : ℕ) → ((k q : ℕ) (c : Cause) → getD ms k Kept ≡ Dropped q c → q < r) → stood (r + 1) (set ms i (Dropped r c)) ≡ set (stood r ms) i false
 stood-next r c ms i early =
     let on : stood (r + 1) ms ≡ stood r ms = ext-getD false (stood (r + 1) ms) (stood r ms) (length-map ms (stoodIn (r + 1)) ∙ sym (length-map ms (stoodIn r)))
-        (λ k h. let l : k < length ms = omega (arith, length-map ms (stoodIn (r + 1))) in getD-stood (r + 1) ms k l ∙ stood-on r (getD ms k Kept) (early k) ∙ sym (getD-stood r ms k l)) in
+    (λ k h. let l : k < length ms = omega (arith, length-map ms (stoodIn (r + 1))) in getD-stood (r + 1) ms k l ∙ stood-on r (getD ms k Kept) (early k) ∙ sym (getD-stood r ms k l)) in
     map-set (stoodIn (r + 1)) ms i (Dropped r c) ∙ ap (λ l. set l i (leb (r + 1) r)) on ∙ ap (set (stood r ms) i) (lt-leb (r + 1) r (omega arith))
 
 all-kept : (m k : ℕ) → getD (replicate m Kept) k Kept ≡ Kept
@@ -179,9 +191,9 @@ module _ (n : ℕ) (verdicts : List Bool → ℕ → Option Cause) (before : ℕ
   -- a mark after one more is that one or an old one
   old-or-new : (ms : List Mark) (i r : ℕ) (c : Cause) → i < length ms → (k q : ℕ) (cause : Cause) → getD (set ms i (Dropped r c)) k Kept ≡ Dropped q cause → ((k ≡ i) × (q ≡ r) × (cause ≡ c)) ⊎ (getD ms k Kept ≡ Dropped q cause)
   old-or-new ms i r c h k q cause e = elim (cases-eq k i) [
-      inl s ↦ inl (let at = ap (λ j. getD (set ms i (Dropped r c)) j Kept) s in let put = getD-set-same ms i (Dropped r c) Kept h in (s, (cc), (cc)))
+    | inl s ↦ inl (let at = ap (λ j. getD (set ms i (Dropped r c)) j Kept) s in let put = getD-set-same ms i (Dropped r c) Kept h in (s, (cc), (cc)))
     | inr d ↦ inr (sym (getD-set-other ms i k (Dropped r c) Kept d) ∙ e)
-    ]
+  ]
 
   dropped : (r : ℕ) (fs : List Bool) (ms : List Mark) (i : ℕ) (c : Cause) → Partial r fs ms → i < n → getD fs i false ≡ true → Right fs i c → Partial (r + 1) (set fs i false) (set ms i (Dropped r c))
   dropped r fs ms i c p h stands ok =
@@ -194,11 +206,11 @@ module _ (n : ℕ) (verdicts : List Bool → ℕ → Option Cause) (before : ℕ
         early = λ k q cause e. elim (old-or-new ms i r c hm k q cause e) [ inl s ↦ omega (arith, s .1) | inr o ↦ omega (arith, p .early k q cause o) ];
         late = λ k q cause e. elim (old-or-new ms i r c hm k q cause e) [ inl s ↦ omega (arith, s .1, p .first) | inr o ↦ p .late k q cause o ];
         right = λ k q cause l e. elim (old-or-new ms i r c hm k q cause e) [
-            inl s ↦ (let same : fs ≡ stood q (set ms i (Dropped r c)) = p .here ∙ ap (λ x. stood x ms) (sym (s .1)) ∙ sym (stood-same q r c ms i hm kept (omega (arith, s .1))) in
+          | inl s ↦ (let same : fs ≡ stood q (set ms i (Dropped r c)) = p .here ∙ ap (λ x. stood x ms) (sym (s .1)) ∙ sym (stood-same q r c ms i hm kept (omega (arith, s .1))) in
               subst (λ l. Right l k cause) same (subst (λ x. Right fs x cause) (sym (s .0)) (subst (Right fs i) (sym (s .2)) ok)))
           | inr o ↦ (let same : stood q ms ≡ stood q (set ms i (Dropped r c)) = sym (stood-same q r c ms i hm kept (omega (arith, p .early k q cause o))) in
               subst (λ l. Right l k cause) same (p .right k q cause l o))
-          ];
+        ];
         counted = omega (arith, p .counted, sumBy-set (λ m. cond (isDropped m) 1 0) ms i (Dropped r c) Kept hm, ap (λ m. one-if (isDropped m)) kept);
       }
 
@@ -215,9 +227,9 @@ module _ (n : ℕ) (verdicts : List Bool → ℕ → Option Cause) (before : ℕ
         let stands = standing-only fs (w .0) (w .1) (low .1) in
         let fs′ = set fs (w .0) false in
         subst (λ o. Settled n verdicts before (o .standing) (o .marks) (o .rounds)) (sym (rounds-step next fuel r fs ms w e))
-            (settle-by fuel (r + 1) fs′ (set ms (w .0) (Dropped r (w .1))) (length-set fs (w .0) false ∙ long)
-                (omega (arith, count-less fs (w .0) (omega (arith, low .0)) stands))
-                (dropped r fs ms (w .0) (w .1) p (low .0) stands (low .1, low .2)) (next fs′) refl (lowest-low (verdicts fs′) before same chain n))
+        (settle-by fuel (r + 1) fs′ (set ms (w .0) (Dropped r (w .1))) (length-set fs (w .0) false ∙ long)
+        (omega (arith, count-less fs (w .0) (omega (arith, low .0)) stands))
+        (dropped r fs ms (w .0) (w .1) p (low .0) stands (low .1, low .2)) (next fs′) refl (lowest-low (verdicts fs′) before same chain n))
 
     pub settled : Settled n verdicts before (roundsFrom next n 1 (replicate n true) (replicate n Kept) .standing) (roundsFrom next n 1 (replicate n true) (replicate n Kept) .marks) (roundsFrom next n 1 (replicate n true) (replicate n Kept) .rounds)
     settled =
@@ -290,10 +302,13 @@ module _ (bs : List (Option Block)) (priced : List Bool → List HourResult) whe
   running-first fs ms m n e f p q =
       let fs-is : fs ≡ replicate (length bs) true = e ∙ ap (λ k. replicate k true) p in
       let ms-is : ms ≡ replicate (length bs) Kept = f ∙ ap (λ k. replicate k Kept) q in
-      let few : count fs ≡ length bs = ap count fs-is ∙ count-all (length bs) in
-      (ap length fs-is ∙ length-replicate (length bs) true, ap length ms-is ∙ length-replicate (length bs) Kept, omega arith,
+      let few : count fs ≡ length bs = ap count fs-is ∙ count-all (length bs) in (
+        ap length fs-is ∙ length-replicate (length bs) true,
+        ap length ms-is ∙ length-replicate (length bs) Kept,
+        omega arith,
         ap (λ k. roundsFrom (nextDrop bs priced) k 1 fs ms) few ∙ ap (λ l. roundsFrom (nextDrop bs priced) (length bs) 1 l ms) fs-is
-          ∙ ap (λ l. roundsFrom (nextDrop bs priced) (length bs) 1 (replicate (length bs) true) l) ms-is)
+            ∙ ap (λ l. roundsFrom (nextDrop bs priced) (length bs) 1 (replicate (length bs) true) l) ms-is,
+      )
 
   pub fewer : (fs : List Bool) (i : ℕ) (c : Cause) → length fs ≡ length bs → nextDrop bs priced fs ≡ Some (i, c) → count fs ≡ suc (count (set fs i false))
   fewer fs i c long e = let s = drop-stands bs priced fs (i, c) e in count-less fs i (omega (arith, s .0)) (s .1)
@@ -315,7 +330,11 @@ module _ (bs : List (Option Block)) (priced : List Bool → List HourResult) whe
   -- no more are dropped than there are blocks
   pub few-rounds : (r : ℕ) (fs : List Bool) (ms : List Mark) → length ms ≡ length bs → Settled (length bs) (roundVerdict bs priced) (blocksBefore bs) fs ms r → r ≤ countBy isSome bs + 1
   few-rounds r fs ms long s =
-      omega (arith, s .counted, fewer-of isDropped isSome Kept None ms bs long (λ k l e.
-        let m = is-drop (getD ms k Kept) e in
-        let then-fs = stood (m .0) ms in
-        row-fails bs then-fs (priced then-fs) k (m .1) (s .failed k (m .0) (m .1) (omega arith) (m .2) .2)))
+      omega (
+        arith,
+        s .counted,
+        fewer-of isDropped isSome Kept None ms bs long (λ k l e.
+            let m = is-drop (getD ms k Kept) e in
+            let then-fs = stood (m .0) ms in
+            row-fails bs then-fs (priced then-fs) k (m .1) (s .failed k (m .0) (m .1) (omega arith) (m .2) .2)),
+      )

@@ -40,7 +40,7 @@ use Rattle.clearing.proofs.Cleared.{blocks-at, blocks-length}
 pub row-laws : RankLaws (rowKind .stamp) (rowKind .before)
 row-laws =
     by-place (by-kind (by-key (λ (c : BlockClaim). c .hours) (by-key (λ c. c .volume) (by-stamp (λ c. c .stamp))))
-        (by-kind (by-key (λ (c : MarketClaim). c .volume) (by-stamp (λ c. c .stamp))) (by-key (λ (c : LimitClaim). c .area) (by-key (λ c. c .volume) (by-stamp (λ c. c .stamp))))))
+    (by-kind (by-key (λ (c : MarketClaim). c .volume) (by-stamp (λ c. c .stamp))) (by-key (λ (c : LimitClaim). c .area) (by-key (λ c. c .volume) (by-stamp (λ c. c .stamp))))))
 
 pub joined-same : {xs xs′ ys ys′ zs zs′ : List ℕ} → xs ≡ xs′ → ys ≡ ys′ → zs ≡ zs′ → (n : ℕ) → tabled (largestOf xs ys zs) n ≡ tabled (largestOf xs′ ys′ zs′) n
 joined-same {xs} {xs′} {ys} {ys′} {zs} {zs′} p q r n =
@@ -108,11 +108,11 @@ module _ (ps : List Place) (sets : List ℕ) (ms : List Mark) (h t : ℕ) (side 
         let w : Option LimitClaim → ℕ = shareOf (placeKind limitKind .asks) (placeKind limitKind .before) (volume - sa - sb) (map thirdOf cs) in
         let one : Option HourClaim → ℕ = shareOf (rowKind .asks) (rowKind .before) volume cs in
         tabled-same (largestOf (map f (map firstOf cs)) (map g (map secondOf cs)) (map w (map thirdOf cs))) (λ k. one (rowClaim ps sets ms h t side k)) n 0
-            (λ k l. let row = rowClaim ps sets ms h t side k in
-              ap (λ x. largest x (getD (map g (map secondOf cs)) k 0) (getD (map w (map thirdOf cs)) k 0)) (kind-at firstOf f k l)
-              ∙ ap (λ x. largest (f (firstOf row)) x (getD (map w (map thirdOf cs)) k 0)) (kind-at secondOf g k l)
-              ∙ ap (λ x. largest (f (firstOf row)) (g (secondOf row)) x) (kind-at thirdOf w k l)
-              ∙ sym (row-share blockKind marketKind limitKind volume cs row))
+        (λ k l. let row = rowClaim ps sets ms h t side k in
+        ap (λ x. largest x (getD (map g (map secondOf cs)) k 0) (getD (map w (map thirdOf cs)) k 0)) (kind-at firstOf f k l)
+        ∙ ap (λ x. largest (f (firstOf row)) x (getD (map w (map thirdOf cs)) k 0)) (kind-at secondOf g k l)
+        ∙ ap (λ x. largest (f (firstOf row)) (g (secondOf row)) x) (kind-at thirdOf w k l)
+        ∙ sym (row-share blockKind marketKind limitKind volume cs row))
         ∙ sym (map-tabled one (rowClaim ps sets ms h t side) n)
 
     pub ruled : SharedKind rowKind volume cs (sideShares ps sets ms h t side volume)

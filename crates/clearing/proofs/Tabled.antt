@@ -42,9 +42,10 @@ abbrev pub Mapped : {X Y : Type 0} → (X → Y) → List X → List Y → ℕ �
 Mapped f xs ys i = (length ys ≡ length xs) × (take i ys ≡ map f (take i xs))
 
 pub mapped-more : {X Y : Type 0} (f : X → Y) (xs : List X) (ys : List Y) (i : ℕ) (x : X) (y : Y) → i < length xs → x ≡ getD xs i x → y ≡ f x → Mapped f xs ys i → Mapped f xs (set ys i y) (i + 1)
-mapped-more f xs ys i x y h read is so =
-    (length-set ys i y ∙ so .0,
-      take-more-set ys i y (omega (arith, so .0)) ∙ ap (λ l. l ++ y ∷ []) (so .1) ∙ ap (λ v. map f (take i xs) ++ v ∷ []) (is ∙ ap f read) ∙ sym (map-more f xs i x h))
+mapped-more f xs ys i x y h read is so = (
+  length-set ys i y ∙ so .0,
+  take-more-set ys i y (omega (arith, so .0)) ∙ ap (λ l. l ++ y ∷ []) (so .1) ∙ ap (λ v. map f (take i xs) ++ v ∷ []) (is ∙ ap f read) ∙ sym (map-more f xs i x h),
+)
 
 pub mapped-all : {X Y : Type 0} (f : X → Y) (xs : List X) (ys : List Y) (i : ℕ) → length xs ≤ i → Mapped f xs ys i → ys ≡ map f xs
 mapped-all f xs ys i h so = sym (take-all i ys (omega (arith, so .0))) ∙ so .1 ∙ ap (map f) (take-all i xs h)
@@ -62,22 +63,24 @@ mixed-none n new old d xs e =
     (ap length e ∙ tabled-length old n, (λ k l. absurd (omega arith)), λ k l m. ap (λ l. getD l k d) e ∙ tabled-at old n k d m)
 
 pub mixed-put : {A : Type 0} (n : ℕ) (new old : ℕ → A) (d : A) (xs : List A) (i : ℕ) (y : A) → i < n → y ≡ new i → Mixed n new old d xs i → Mixed n new old d (set xs i y) (i + 1)
-mixed-put n new old d xs i y h e m =
-    (length-set xs i y ∙ m .0,
-      (λ k l. elim (cases-eq k i) [
-          inl s ↦ ap (λ j. getD (set xs i y) j d) s ∙ getD-set-same xs i y d (omega (arith, m .0)) ∙ e ∙ ap new (sym s)
-        | inr ne ↦ getD-set-other xs i k y d ne ∙ m .1 k (omega (arith, ne))
-        ]),
-      λ k l o. getD-set-other xs i k y d (λ s. absurd (omega (arith, s))) ∙ m .2 k (omega arith) o)
+mixed-put n new old d xs i y h e m = (
+  length-set xs i y ∙ m .0,
+  (λ k l. elim (cases-eq k i) [
+    | inl s ↦ ap (λ j. getD (set xs i y) j d) s ∙ getD-set-same xs i y d (omega (arith, m .0)) ∙ e ∙ ap new (sym s)
+    | inr ne ↦ getD-set-other xs i k y d ne ∙ m .1 k (omega (arith, ne))
+  ]),
+  λ k l o. getD-set-other xs i k y d (λ s. absurd (omega (arith, s))) ∙ m .2 k (omega arith) o,
+)
 
 pub mixed-keep : {A : Type 0} (n : ℕ) (new old : ℕ → A) (d : A) (xs : List A) (i : ℕ) → i < n → old i ≡ new i → Mixed n new old d xs i → Mixed n new old d xs (i + 1)
-mixed-keep n new old d xs i h e m =
-    (m .0,
-      (λ k l. elim (cases-eq k i) [
-          inl s ↦ m .2 k (omega (arith, s)) (omega (arith, s)) ∙ ap old s ∙ e ∙ ap new (sym s)
-        | inr ne ↦ m .1 k (omega (arith, ne))
-        ]),
-      λ k l o. m .2 k (omega arith) o)
+mixed-keep n new old d xs i h e m = (
+  m .0,
+  (λ k l. elim (cases-eq k i) [
+    | inl s ↦ m .2 k (omega (arith, s)) (omega (arith, s)) ∙ ap old s ∙ e ∙ ap new (sym s)
+    | inr ne ↦ m .1 k (omega (arith, ne))
+  ]),
+  λ k l o. m .2 k (omega arith) o,
+)
 
 pub mixed-all : {A : Type 0} (n : ℕ) (new old : ℕ → A) (d : A) (xs : List A) (i : ℕ) → n ≤ i → Mixed n new old d xs i → xs ≡ tabled new n
 mixed-all n new old d xs i h m = tabled-by new xs n d (m .0) (λ k l. m .1 k (omega arith))

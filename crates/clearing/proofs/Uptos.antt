@@ -29,6 +29,6 @@ unfolding anyUpto
 any-from p zero k h e = absurd (omega arith)
 any-from p (suc n) k h e =
     elim (cases-lt k n) [
-      inl l ↦ or-left (anyUpto p n) (p n) (any-from p n k l e)
-    | inr g ↦ or-right (anyUpto p n) (p n) (let s : k ≡ n = omega arith in ap p (sym s) ∙ e)
+      | inl l ↦ or-left (anyUpto p n) (p n) (any-from p n k l e)
+      | inr g ↦ or-right (anyUpto p n) (p n) (let s : k ≡ n = omega arith in ap p (sym s) ∙ e)
     ]

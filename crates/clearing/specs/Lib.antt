@@ -9,3 +9,4 @@ pub mod Fixing
 pub mod BlockPrice
 pub mod Claims
 pub mod Sharing
+pub mod Figures

@@ -58,7 +58,7 @@ outcome fs ms r = record { standing = fs; marks = ms; rounds = r }
 unfoldable pub roundsFrom : (List Bool → Option (ℕ × Cause)) → ℕ → ℕ → List Bool → List Mark → Outcome
 roundsFrom next zero r fs ms = outcome fs ms r
 roundsFrom next (suc n) r fs ms = elim (next fs) [
-    None ↦ outcome fs ms r
+  | None ↦ outcome fs ms r
   | Some w ↦ roundsFrom next n (r + 1) (set fs (w .0) false) (set ms (w .0) (Dropped r (w .1)))
 ]
 

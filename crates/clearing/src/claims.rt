@@ -98,12 +98,7 @@ pub(crate) fn block_claims(
     }
 }
 
-pub(crate) fn market_claims(
-    rows: &[Row],
-    hour: u8,
-    side: Side,
-    claims: &mut [Option<MarketClaim>],
-)
+pub(crate) fn market_claims(rows: &[Row], hour: u8, side: Side, claims: &mut [Option<MarketClaim>])
     requires { ⌜ length (now claims) ≡ length (now rows) ⌝ }
     ensures { λ _. ⌜ now (claims .exit) ≡ map (marketOf hour side) (places (now (rows .entry))) ⌝ }
 {

@@ -15,3 +15,4 @@ mod rounds;
 pub mod sharing;
 #[cfg(test)]
 mod tests;
+pub mod theorems;

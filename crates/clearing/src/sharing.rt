@@ -82,8 +82,7 @@ fn serve_kinds(
         &mut to_blocks,
         &mut to_markets,
         &mut to_limits,
-    )
-    .unwrap();
+    ).unwrap();
     join_kinds(&to_blocks, &to_markets, &to_limits, shares);
 }
 
@@ -145,8 +144,26 @@ fn share_sides(
     let mut sells = [0; 256];
     let bought = shared_out(result, filled, Side::Buy);
     let sold = shared_out(result, filled, Side::Sell);
-    side_shares(rows, products, marks, hour, price, Side::Buy, bought, &mut buys);
-    side_shares(rows, products, marks, hour, price, Side::Sell, sold, &mut sells);
+    side_shares(
+        rows,
+        products,
+        marks,
+        hour,
+        price,
+        Side::Buy,
+        bought,
+        &mut buys,
+    );
+    side_shares(
+        rows,
+        products,
+        marks,
+        hour,
+        price,
+        Side::Sell,
+        sold,
+        &mut sells,
+    );
     join_sides(&buys, &sells, shares);
 }
 

@@ -81,10 +81,23 @@ fn print_blocks(rt: &impl Print, blocks: &Blocks, hours: &[HourResult; 24]) -> R
 }
 
 // The shares of every hour, a table of rows to each.
-fn shares_of(rows: &[Row; 256], blocks: &Blocks, marks: &[Mark; 256], hours: &[HourResult; 24]) -> Result<[[u64; 256]; 24], Fault> {
+fn shares_of(
+    rows: &[Row; 256],
+    blocks: &Blocks,
+    marks: &[Mark; 256],
+    hours: &[HourResult; 24],
+) -> Result<[[u64; 256]; 24], Fault> {
     let mut shares = [[0; 256]; 24];
     for i in 0..24 {
-        hour_shares(rows, blocks, marks, i as u8 + 1, &hours[i], 0, &mut shares[i])?;
+        hour_shares(
+            rows,
+            blocks,
+            marks,
+            i as u8 + 1,
+            &hours[i],
+            0,
+            &mut shares[i],
+        )?;
     }
     Ok(shares)
 }
@@ -105,11 +118,28 @@ fn clear_day(rt: &impl Print, input: &[u8]) -> Result<(), Stop> {
         return Err(Refusal::WrongLength.without_text().into());
     }
     let mut rows = [Row::Empty; 256];
-    let mut hours = [HourResult { price: 0, executed: 0, surplus: 0, side: Side::Sell }; 24];
+    let mut hours = [HourResult {
+        price: 0,
+        executed: 0,
+        surplus: 0,
+        side: Side::Sell,
+    }; 24];
     let mut marks = [Mark::Kept; 256];
     let mut reader = Reader::new(input);
-    let opening = load(&mut reader, &mut rows, &mut hours, &mut marks, &mut [Later::Empty; 128])?;
-    fix(&rows, &opening.blocks, &opening.references, &mut hours, &mut marks)?;
+    let opening = load(
+        &mut reader,
+        &mut rows,
+        &mut hours,
+        &mut marks,
+        &mut [Later::Empty; 128],
+    )?;
+    fix(
+        &rows,
+        &opening.blocks,
+        &opening.references,
+        &mut hours,
+        &mut marks,
+    )?;
     print_hours(rt, &hours)?;
     print_blocks(rt, &opening.blocks, &hours)?;
     let shares = shares_of(&rows, &opening.blocks, &marks, &hours)?;

@@ -28,10 +28,11 @@ block-again-then-not-standing-i c =
 pub block-again-then-loses : need.block-again-then-loses
 block-again-then-loses c =
     let bs = c .args .blocks .now in
-    let fs = c .args .standing .now in
-    (c .lower-lowest .ensures .is
-      ∙ lowest-more _ _ (c .block .i) (c .block .lowest) (Some Loss) (c .block .inv .0) (at-block bs fs (c .args .results .now) (c .block .i) (c .in-Some .block) (Some Loss) (c .in-Some .is) (by-loss _ _ _ (c .if-not-standing-i .left) (sym (c .if-loses .ensures tt)))),
-      c .lower-lowest .ensures .within)
+    let fs = c .args .standing .now in (
+      c .lower-lowest .ensures .is
+          ∙ lowest-more _ _ (c .block .i) (c .block .lowest) (Some Loss) (c .block .inv .0) (at-block bs fs (c .args .results .now) (c .block .i) (c .in-Some .block) (Some Loss) (c .in-Some .is) (by-loss _ _ _ (c .if-not-standing-i .left) (sym (c .if-loses .ensures tt)))),
+      c .lower-lowest .ensures .within,
+    )
 
 pub loop-hour-holds : need.loop-hour-holds
 loop-hour-holds c = (c .block .inv .0, c .block .inv .1, any-none _)
@@ -41,10 +42,11 @@ block-again-then-short-in c =
     let bs = c .args .blocks .now in
     let fs = c .args .standing .now in
     let b = c .in-Some .block in
-    let p = shortIn bs fs (c .args .results .now) b in
-    (c .lower-lowest-then-short-in .ensures .is
-      ∙ lowest-more _ _ (c .block .i) (c .loop-hour .lowest·) (Some Shortage) (c .loop-hour .inv .0) (at-block bs fs (c .args .results .now) (c .block .i) b (Some Shortage) (c .in-Some .is) (by-shortage _ _ _ (c .if-not-standing-i .left) (sym (c .if-loses .ensures tt)) (any-from p 24 (c .loop-hour .hour) (c .loop-hour-test .taken) (sym (c .if-short-in .ensures tt))))),
-      c .lower-lowest-then-short-in .ensures .within)
+    let p = shortIn bs fs (c .args .results .now) b in (
+      c .lower-lowest-then-short-in .ensures .is
+          ∙ lowest-more _ _ (c .block .i) (c .loop-hour .lowest·) (Some Shortage) (c .loop-hour .inv .0) (at-block bs fs (c .args .results .now) (c .block .i) b (Some Shortage) (c .in-Some .is) (by-shortage _ _ _ (c .if-not-standing-i .left) (sym (c .if-loses .ensures tt)) (any-from p 24 (c .loop-hour .hour) (c .loop-hour-test .taken) (sym (c .if-short-in .ensures tt))))),
+      c .lower-lowest-then-short-in .ensures .within,
+    )
 
 pub loop-hour-again : need.loop-hour-again
 loop-hour-again c =

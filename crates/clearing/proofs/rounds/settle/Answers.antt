@@ -18,7 +18,7 @@ returns-in-rest g c =
     let priced = p .priced (c .args .pricer .now) in
     let bs = c .args .blocks .now in
     let none : nextDrop bs priced (c .loop-i .standing) ≡ None =
-        found bs priced (c .loop-i .standing) (c .loop-i .results) _ (c .loop-i .inv .1) (c .lowest-failing .ensures .is) ∙ c .in-rest .is in
+    found bs priced (c .loop-i .standing) (c .loop-i .results) _ (c .loop-i .inv .1) (c .lowest-failing .ensures .is) ∙ c .in-rest .is in
     let done = running-done bs priced (c .loop-i .round) (c .loop-i .standing) (c .loop-i .marks) (c .loop-i .inv .0) none in
     record { rounds = done; results = c .loop-i .inv .1 }
 
@@ -28,7 +28,7 @@ loop-i-less g c =
     let priced = p .priced (c .args .pricer .now) in
     let bs = c .args .blocks .now in
     let some : nextDrop bs priced (c .loop-i .standing) ≡ Some (c .in-Some .i, c .in-Some .cause) =
-        found bs priced (c .loop-i .standing) (c .loop-i .results) _ (c .loop-i .inv .1) (c .lowest-failing .ensures .is) ∙ c .in-Some .is in
+    found bs priced (c .loop-i .standing) (c .loop-i .results) _ (c .loop-i .inv .1) (c .lowest-failing .ensures .is) ∙ c .in-Some .is in
     omega (arith, fewer bs priced (c .loop-i .standing) (c .in-Some .i) (c .in-Some .cause) (c .loop-i .inv .0 .0) some, ap count (c .drop-block-round .ensures .standing))
 
 pub loop-i-again : need.loop-i-again
@@ -37,7 +37,7 @@ loop-i-again g c =
     let priced = p .priced (c .args .pricer .now) in
     let bs = c .args .blocks .now in
     let some : nextDrop bs priced (c .loop-i .standing) ≡ Some (c .in-Some .i, c .in-Some .cause) =
-        found bs priced (c .loop-i .standing) (c .loop-i .results) _ (c .loop-i .inv .1) (c .lowest-failing .ensures .is) ∙ c .in-Some .is in
+    found bs priced (c .loop-i .standing) (c .loop-i .results) _ (c .loop-i .inv .1) (c .lowest-failing .ensures .is) ∙ c .in-Some .is in
     (running-step bs priced (c .loop-i .round) (c .loop-i .standing) (c .loop-i .marks) (c .in-Some .i) (c .in-Some .cause) _ _ _ (c .loop-i .inv .0) some (c .drop-block-round .ensures .next) (c .drop-block-round .ensures .standing) (c .drop-block-round .ensures .marks), c .reprice .ensures)
 
 pub drop-block-round-requires : need.drop-block-round-requires
@@ -46,7 +46,7 @@ drop-block-round-requires g c κs =
     let priced = p .priced (c .args .pricer .now) in
     let bs = c .args .blocks .now in
     let some : nextDrop bs priced (c .loop-i .standing) ≡ Some (c .in-Some .i, c .in-Some .cause) =
-        found bs priced (c .loop-i .standing) (c .loop-i .results) _ (c .loop-i .inv .1) (c .lowest-failing .ensures .is) ∙ c .in-Some .is in
+    found bs priced (c .loop-i .standing) (c .loop-i .results) _ (c .loop-i .inv .1) (c .lowest-failing .ensures .is) ∙ c .in-Some .is in
     let less = fewer bs priced (c .loop-i .standing) (c .in-Some .i) (c .in-Some .cause) (c .loop-i .inv .0 .0) some in
     let within = drop-stands bs priced (c .loop-i .standing) (c .in-Some .i, c .in-Some .cause) some .0 in
     let run = c .loop-i .inv .0 in
@@ -62,7 +62,7 @@ reprice-requires g c κs =
     let fs = c .loop-i .standing in
     let i = c .in-Some .i in
     let some : nextDrop bs priced fs ≡ Some (i, c .in-Some .cause) =
-        found bs priced fs (c .loop-i .results) _ (c .loop-i .inv .1) (c .lowest-failing .ensures .is) ∙ c .in-Some .is in
+    found bs priced fs (c .loop-i .results) _ (c .loop-i .inv .1) (c .lowest-failing .ensures .is) ∙ c .in-Some .is in
     let s = drop-stands bs priced fs (i, c .in-Some .cause) some in
     let put = c .drop-block-round .ensures .standing in
     let back : fs ≡ set (c .drop-block-round .last .standing) i true = sym (ap (λ l. set l i true) put ∙ set-set fs i false true ∙ ap (λ v. set fs i v) (sym (s .1)) ∙ set-getD fs i false) in

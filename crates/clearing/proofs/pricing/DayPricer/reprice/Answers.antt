@@ -25,8 +25,8 @@ loop-hour-again c =
     let old : ℕ → HourResult = at (set fs (c .args .dropped) true) in
     let h = c .loop-hour .hour in
     elim (c .if-touches .came) [
-      then-touches w ↦ subst (λ (rs : List HourResult). Mixed 24 new old noResult rs (h + 1)) (sym (w .results-is)) (mixed-put 24 new old noResult (c .loop-hour .results) h (w .hour .result) (c .loop-hour-test .taken) (w .hour .ensures) (c .loop-hour .inv))
-    | else-touches w ↦ subst (λ (rs : List HourResult). Mixed 24 new old noResult rs (h + 1)) (sym (w .results-is)) (mixed-keep 24 new old noResult (c .loop-hour .results) h (c .loop-hour-test .taken) (hour-same (now (day .blocks)) fs (c .args .dropped) true h (sym (c .touches .ensures) ∙ w .if-touches .left) (places (now (day .rows))) (ticks (now (day .references)))) (c .loop-hour .inv))
+      | then-touches w ↦ subst (λ (rs : List HourResult). Mixed 24 new old noResult rs (h + 1)) (sym (w .results-is)) (mixed-put 24 new old noResult (c .loop-hour .results) h (w .hour .result) (c .loop-hour-test .taken) (w .hour .ensures) (c .loop-hour .inv))
+      | else-touches w ↦ subst (λ (rs : List HourResult). Mixed 24 new old noResult rs (h + 1)) (sym (w .results-is)) (mixed-keep 24 new old noResult (c .loop-hour .results) h (c .loop-hour-test .taken) (hour-same (now (day .blocks)) fs (c .args .dropped) true h (sym (c .touches .ensures) ∙ w .if-touches .left) (places (now (day .rows))) (ticks (now (day .references)))) (c .loop-hour .inv))
     ]
 
 pub returns : need.returns
