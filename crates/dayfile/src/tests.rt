@@ -9,7 +9,9 @@ use faults::fault::FaultDebug;
 use faults::fault::FaultPartialEq;
 use faults::fault::Refusal;
 use std::test::*;
+use text::close::Close;
 use text::reader::Reader;
+use text::write::put_number_item;
 use text::write::put_word;
 
 fn open(reader: &mut Reader, rows: &mut [Row]) -> Result<Opening, Fault> {
@@ -111,4 +113,36 @@ fn an_accepted_day_stands_in_its_tables() -> Result<(), Fail> {
             Err(fault) => fault == Refusal::WrongLength.without_text(),
         },
     )
+}
+
+// Order lines for the rows from 0 to `n`, all for one product.
+fn put_lines(text: &mut [u8], from: usize, n: u64, product: u64) {
+    let mut at = from;
+    for row in 0..n {
+        at = put_number_item(text, at, row, Close::Space);
+        at = put_word(text, at, b"7 ");
+        at = put_number_item(text, at, product, Close::Space);
+        at = put_word(text, at, b"buy market 10\n");
+    }
+}
+
+// The fault of a day of one block with such orders.
+fn fault_of_many(n: u64, product: u64) -> Option<Fault> {
+    let mut text = [0; 8192];
+    let at = put_word(
+        &mut text,
+        0,
+        b"hours 24\n1 1 1 1 1 1 1 1 1 1 1 1 1 1 1 1 1 1 1 1 1 1 1 1\nblocks 1\n3\norders ",
+    );
+    let lines = put_number_item(&mut text, at, n, Close::Line);
+    put_lines(&mut text, lines, n, product);
+    fault_of(&text)
+}
+
+#[test]
+fn a_full_table_and_a_block_too_many() -> Result<(), Fail> {
+    check_eq(fault_of_many(256, 1), None)?;
+    check_eq(fault_of_many(257, 1), at(Refusal::OutOfRange(75), 68))?;
+    check_eq(fault_of_many(32, 25), None)?;
+    check_eq(fault_of_many(33, 25), at(Refusal::BlocksFull(32), 772))
 }
