@@ -157,6 +157,12 @@ adds-up Buy Sell b s e x filled total lo hi ee ex h fb fs t = let l : b ≤ s = 
 adds-up Sell Buy b s e x filled total lo hi ee ex h fb fs t = let l : s < b = lo refl in omega arith
 adds-up Sell Sell b s e x filled total lo hi ee ex h fb fs t = let l : b ≤ s = hi refl in omega arith
 
+fits-other : (side rs : Side) (b s e filled : ℕ) → sameSide side rs ≡ false → (rs ≡ Buy → s < b) → (rs ≡ Sell → b ≤ s) → e ≡ min b s → pick side b s ≤ cond (sameSide side rs) (min (e + filled) 18446744073709551615) e
+fits-other Buy Buy b s e filled off lo hi ee = let z : _≡_ {A = ℕ} 0 1 = cc in absurd (omega arith)
+fits-other Buy Sell b s e filled off lo hi ee = let l : b ≤ s = hi refl in omega arith
+fits-other Sell Buy b s e filled off lo hi ee = let l : s < b = lo refl in omega arith
+fits-other Sell Sell b s e filled off lo hi ee = let z : _≡_ {A = ℕ} 0 1 = cc in absurd (omega arith)
+
 enough : (q : Bool) (load e filled : ℕ) → load ≤ e → e ≤ 51200000 → load ≤ cond q (min (e + filled) 18446744073709551615) e
 enough true load e filled h k = omega arith
 enough false load e filled h k = h
@@ -273,6 +279,18 @@ module _ (rows : List Row) (sets : List ℕ) (ms : List Mark) (h : ℕ) (r : Hou
       ∙ ap (min (sharedOut r filled side)) (asked ∙ total-is refs fs side)
       ∙ adds-up side (r .side) b s (r .executed) (r .surplus) filled _ (λ e. side-buy b s (sym (at .side-is) ∙ e)) (λ e. side-sell b s (sym (at .side-is) ∙ e)) (at .executed-is) (at .surplus-is) l (at .few-bought) (at .few-sold) refl
 
+  all-full : FromClearing ps sets ms h r filled → (side : Side) → sameSide side (r .side) ≡ false → sharesOn ps sets ms h r filled side ≡ map (rowKind .asks) (rowClaims ps sets ms h (r .price) side)
+  all-full f side off =
+      let refs = f .refs in
+      let fs = roundsOf bs (resultsOf ps bs refs) .standing in
+      let c = cleared ps sets ms h r filled within f in
+      let at = sides refs fs (c .result-is) in
+      let b : ℕ = bought ps bs refs fs h (r .price) in
+      let s : ℕ = sold ps bs refs fs h (r .price) in
+      let total : sumBy (rowKind .asks) (rowClaims ps sets ms h (r .price) side) ≡ pick side b s = all-asked ps sets ms fs h (r .price) side within (c .standing) ∙ total-is refs fs side in
+      let small : pick side b s ≤ sharedOut r filled side = fits-other side (r .side) b s (r .executed) filled off (λ e. side-buy b s (sym (at .side-is) ∙ e)) (λ e. side-sell b s (sym (at .side-is) ∙ e)) (at .executed-is) in
+      ruled ps sets ms h (r .price) side within (sharedOut r filled side) .enough (omega (arith, total, small))
+
   -- what the standing blocks of a side ask for is executed where one of them stands
   load-fits : (f : FromClearing ps sets ms h r filled) (k : ℕ) (b : Block) → k < length ps → blockOf sets (placeAt ps k) ≡ Some b → getD ms k Kept ≡ Kept → inHour (b .hours) h ≡ true → loadOf bs (roundsOf bs (resultsOf ps bs (f .refs)) .standing) (b .side) h ≤ r .executed
   load-fits f k b l is kept hour =
@@ -336,5 +354,6 @@ module _ (rows : List Row) (sets : List ℕ) (ms : List Mark) (h : ℕ) (r : Hou
     ruled = λ side. ruled ps sets ms h (r .price) side within (sharedOut r filled side);
     own = own;
     balance = balanced;
+    others = all-full;
     whole = whole;
   }

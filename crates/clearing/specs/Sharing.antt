@@ -1,7 +1,7 @@
 -- The shares of an hour: what is shared out on each side, each row's share, and what holds of them.
 use mathlib.Core.Path.{_≡_}
-use mathlib.Core.Bool.{Bool, true, cond, _&&_}
-use mathlib.Core.List.{List}
+use mathlib.Core.Bool.{Bool, true, false, cond, _&&_}
+use mathlib.Core.List.{List, map}
 use Prim.Native.Nat.{ℕ, _+_, _-_, _≤_, _<_, min, max}
 use lib.Dec.{eqb}
 use lib.ListN.{length, getD}
@@ -88,5 +88,7 @@ module _ (ps : List Place) (sets : List ℕ) (ms : List Mark) (h : ℕ) (r : Hou
     pub own : (k : ℕ) (b : Bid) → k < length ps → placeAt ps k ≡ held b → getD hourShares k 0 ≡ getD (sharesOn (b .offer .side)) k 0
     -- balance: the side with the surplus receives the executed volume and the post fills, the other the executed volume
     pub balance : Stamped ps → FromClearing → filled ≤ r .surplus → (side : Side) → sum (sharesOn side) ≡ cond (sameSide side (r .side)) (r .executed + filled) (r .executed)
+    -- on the side without the surplus everybody receives what they ask
+    pub others : FromClearing → (side : Side) → sameSide side (r .side) ≡ false → sharesOn side ≡ map (rowKind .asks) (rowClaims ps sets ms h (r .price) side)
     -- a standing block has its whole volume in each of its hours
     pub whole : FromClearing → (k : ℕ) (b : Block) → k < length ps → blockOf sets (placeAt ps k) ≡ Some b → getD ms k Kept ≡ Kept → inHour (b .hours) h ≡ true → getD (sharesOn (b .side)) k 0 ≡ b .volume
