@@ -5,7 +5,6 @@ pub mod loading;
 pub mod naming;
 pub mod opening;
 mod orders;
-pub mod promises;
 mod putting;
 mod sections;
 mod sequencing;

@@ -9,6 +9,7 @@ ghost use Rattle.book.specs.declared.rows.Row.the-variants.{Empty};
 ghost use Rattle.text.specs.Format.{Faithful, onward, got};
 ghost use Rattle.text.specs.Tokens.{told, ahead};
 ghost use Rattle.dayfile.specs.Day.{emptyPlaces, dayText};
+ghost use Rattle.dayfile.specs.Entered.{LoadsItsText};
 ghost use Rattle.dayfile.specs.Loading.{opened, openedBy, rightLengths, loading, headOf, loadHead, loadPlaces};
 use crate::opening::Opening;
 use crate::orders::read_orders;
@@ -58,7 +59,8 @@ fn undo(reader: &mut Reader, start: usize, table: &mut [Row])
 
 // Opens the day whose text begins at the reader's place: the orders go into the rows, with the stamps from 1 on, and every
 // other place is emptied. The answer carries what else the day begins with, and the reader stands where its text ends.
-// A refused load leaves every place empty, and the reader where it was.
+// A refused load leaves every place empty, and the reader where it was. What is accepted is the text of the day that it
+// leaves (`text`).
 pub fn load<H: Blank, M: Blank, P: Blank>(
     reader: &mut Reader,
     rows: &mut [Row],
@@ -74,6 +76,7 @@ pub fn load<H: Blank, M: Blank, P: Blank>(
     ensures input { λ _. ⌜ now (now (reader .exit) .input) ≡ now (now (reader .entry) .input) ⌝ }
     ensures stays { λ r. ⌜ Cases r (λ _. Unit {0}) (λ _. now (reader .exit) .at ≡ now (reader .entry) .at) ⌝ }
     ensures faithful { λ _. ⌜ Faithful dayText ⌝ }
+    ensures text { λ _. ⌜ LoadsItsText ⌝ }
 {
     clear(rows);
     clear(hours);

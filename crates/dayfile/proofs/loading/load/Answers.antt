@@ -7,6 +7,7 @@ use Rattle.text.specs.Tokens.{ahead}
 use Rattle.dayfile.specs.Loading.{loadHead, loadPlaces}
 use Rattle.dayfile.specs.Views.{tickValues}
 use Rattle.dayfile.proofs.Described.{faithful-day}
+use Rattle.dayfile.proofs.Fitting.{loads-its-text}
 use Rattle.dayfile.proofs.Openings.{places-blank, places-empty, day-read, day-refused, fitting, unfitting, rows-256, lengths-told}
 use Rattle.dayfile.proofs.loading.load.Needs as need
 
@@ -24,6 +25,7 @@ returns-then-not-right-lengths g c =
       input = refl;
       stays = refl;
       faithful = faithful-day;
+      text = λ l p bs d q cs e. loads-its-text l p bs d q cs e;
     }
 
 pub read-day-requires : need.read-day-requires
@@ -49,6 +51,7 @@ returns-in-Ok g c =
       input = c .read-day .ensures .input;
       stays = tt;
       faithful = faithful-day;
+      text = λ l p bs d q cs e. loads-its-text l p bs d q cs e;
     }
 
 pub returns-in-Err : need.returns-in-Err
@@ -66,4 +69,5 @@ returns-in-Err g c =
       input = c .undo .ensures .input ∙ c .read-day .ensures .input;
       stays = c .undo .ensures .at;
       faithful = faithful-day;
+      text = λ l p bs d q cs e. loads-its-text l p bs d q cs e;
     }
