@@ -1,4 +1,6 @@
 // Claims on a volume, the rankings among them, and the one rule that shares the volume out.
+#![tactic(auto)]
+
 pub mod block;
 pub mod claim;
 pub mod kinds;

@@ -1,4 +1,6 @@
 // The area of an order: what it shows at all ticks beyond a price.
+#![tactic(auto)]
+
 pub mod areas;
 mod chains;
 mod pieces;

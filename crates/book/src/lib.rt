@@ -1,4 +1,6 @@
 // The order book: orders as asked, the order table, and one side of an hour as a curve.
+#![tactic(auto)]
+
 pub mod admit;
 pub mod blanks;
 pub mod blocks;

@@ -1,4 +1,6 @@
 // The text of a day's calls: a count, and then a line for each call.
+#![tactic(auto)]
+
 pub mod lines;
 pub mod names;
 pub mod naming;

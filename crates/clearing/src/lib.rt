@@ -1,4 +1,6 @@
 // Clearing: the block rounds, the published results of the hours, and the shares of an hour.
+#![tactic(auto)]
+
 pub mod block_prices;
 mod blocks;
 mod claims;

@@ -1,4 +1,6 @@
 // Curves from tick to volume, and the clearing price of an hour over any two of them.
+#![tactic(auto)]
+
 pub mod building;
 pub mod chains;
 pub mod curves;

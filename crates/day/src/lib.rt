@@ -1,4 +1,6 @@
 // A day that owns its tables, with its phase as a field, and the eight calls.
+#![tactic(auto)]
+
 pub mod calling;
 pub mod days;
 pub mod entering;

@@ -1,4 +1,6 @@
 // The text of a day: read into lent tables and written back.
+#![tactic(auto)]
+
 pub mod kinds;
 pub mod lines;
 pub mod loading;

@@ -1,4 +1,6 @@
 // Reads a day file from the standard input, clears the day, and prints its hours, blocks and shares, or why it is refused.
+#![tactic(auto)]
+
 ghost use Rattle.goosespan.specs.declared.Later.TheVariants.{Empty};
 
 use book::blanks::Blank;

@@ -1,4 +1,6 @@
 // The phases of a day as types, with its tables lent at each call.
+#![tactic(auto)]
+
 pub mod loading;
 pub mod orders;
 pub mod posts;

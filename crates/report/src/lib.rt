@@ -1,4 +1,6 @@
 // What is printed of a day: the answers of its calls, and its final result.
+#![tactic(auto)]
+
 pub mod answers;
 mod checks;
 pub mod finals;

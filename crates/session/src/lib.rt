@@ -1,2 +1,4 @@
 // The program as a function from its input to its output.
+#![tactic(auto)]
+
 pub mod running;

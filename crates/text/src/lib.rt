@@ -1,4 +1,6 @@
 // Text: items, tokens and lines, read from an input and written into a lent output by one description of a format.
+#![tactic(auto)]
+
 pub mod close;
 pub mod items;
 pub mod reader;
