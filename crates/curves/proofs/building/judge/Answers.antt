@@ -22,18 +22,18 @@ returns-then-asked-lt1 c =
     let n = quotes_long c.args.asked.now in
     let bad : bad_count (length (quotes c.args.asked.now)) ≡ true =
     elim c.then-asked-lt1.either [ inl a ↦ few (length (quotes c.args.asked.now)) (omega (arith, a, n)) | inr a ↦ many (length (quotes c.args.asked.now)) (omega (arith, a.1, n)) ] in
-    ap Err c.without-text.ensures ∙ sym (cond-true _ _ _ bad)
+    ap Err c.without_text.ensures ∙ sym (cond-true _ _ _ bad)
 
-pub returns-then-some-wild : goal.returns-then-some-wild
+pub returns-then-some_wild : goal.returns-then-some_wild
 unfolding pairs_verdict
-returns-then-some-wild c =
+returns-then-some_wild c =
     let n = quotes_long c.args.asked.now in
     let good : bad_count (length (quotes c.args.asked.now)) ≡ false = fits (length (quotes c.args.asked.now)) (omega (arith, n)) (omega (arith, n)) in
-    ap Err c.without-text-then-some-wild.ensures ∙ sym (cond-false _ _ _ good ∙ cond-true _ _ _ (sym c.if-some-wild.ensures))
+    ap Err c.without_text-then-some_wild.ensures ∙ sym (cond-false _ _ _ good ∙ cond-true _ _ _ (sym c.if-some_wild.ensures))
 
 pub returns : goal.returns
 unfolding pairs_verdict
 returns c =
     let n = quotes_long c.args.asked.now in
     let good : bad_count (length (quotes c.args.asked.now)) ≡ false = fits (length (quotes c.args.asked.now)) (omega (arith, n)) (omega (arith, n)) in
-    c.pair-by-pair.ensures ∙ sym (cond-false _ _ _ good ∙ cond-false _ _ _ (sym c.if-some-wild.ensures))
+    c.pair_by_pair.ensures ∙ sym (cond-false _ _ _ good ∙ cond-false _ _ _ (sym c.if-some_wild.ensures))

@@ -10,8 +10,8 @@ rebuilt-pairs-requires c =
     let n = quotes_long c.args.asked.now in
     record { some = omega (arith, p.some, n); fits = omega (arith, p.fits, n); tame = p.tame }
 
-pub invariant-of-result : goal.invariant-of-result
-invariant-of-result c =
+pub invariant_of-result : goal.invariant_of-result
+invariant_of-result c =
     let p = pairs_proper c.args.side (quotes c.args.asked.now) c.requires in
     let n = quotes_long c.args.asked.now in
-    (omega (arith, p.some, n), (omega (arith, p.fits, n), (ap (ordered c.args.side) c.rebuilt-pairs.ensures ∙ p.lined, tt)))
+    record { some = omega (arith, p.some, n); fits = omega (arith, p.fits, n); lined = ap (ordered c.args.side) c.rebuilt-pairs.ensures ∙ p.lined }

@@ -8,12 +8,12 @@ use Rattle.curves.proofs.building.pair_by_pair.Goals as goal
 pub returns-then-q-p : goal.returns-then-q-p
 returns-then-q-p c =
     let one = paired_step c.args.side (c.loop-i.i + 1) c.args.asked.now c.loop-i.i c.loop-i.auto.i c.loop-i-test.true in
-    ap Err c.without-text.ensures ∙ (sym (one ∙ cond-true _ _ _ (le-leb _ _ c.if-q-p.true)) ∙ c.loop-i.invariant)
+    ap Err c.without_text.ensures ∙ (sym (one ∙ cond-true _ _ _ (le-leb _ _ c.if-q-p.true)) ∙ c.loop-i.invariant)
 
 pub returns-then-not-stays : goal.returns-then-not-stays
 returns-then-not-stays c =
     let one = paired_step c.args.side (c.loop-i.i + 1) c.args.asked.now c.loop-i.i c.loop-i.auto.i c.loop-i-test.true in
-    ap Err c.without-text-then-not-stays.ensures
+    ap Err c.without_text-then-not-stays.ensures
     ∙ (sym (one ∙ (cond-false _ _ _ (lt-leb _ _ c.if-q-p.false) ∙ cond-false _ _ _ (sym c.stays.ensures ∙ c.if-not-stays.true))) ∙ c.loop-i.invariant)
 
 pub loop-i-preserved : goal.loop-i-preserved

@@ -8,8 +8,8 @@ weighed : (p q : Pair) (t : ℕ) → p.tick ≤ t → t ≤ q.tick → p.volume 
 weighed p q t low high =
     omega (arith, mul-le p.volume (q.tick - t) 100000 300000 p.few (omega (arith, q.high)), mul-le q.volume (t - p.tick) 100000 300000 q.few (omega (arith, q.high)))
 
-pub overflow-add-falling : goal.overflow-add-falling
-overflow-add-falling c = omega (arith, weighed c.args.p c.args.q c.args.tick (omega (arith, c.requires.0)) (omega (arith, c.requires.1)))
+pub overflow_add-falling : goal.overflow_add-falling
+overflow_add-falling c = omega (arith, weighed c.args.p c.args.q c.args.tick (omega (arith, c.requires.0)) (omega (arith, c.requires.1)))
 
 pub round-requires : goal.round-requires
 round-requires c =

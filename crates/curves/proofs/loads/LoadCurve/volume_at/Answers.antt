@@ -1,8 +1,8 @@
 use Rattle.std.proofs.Common.{arith}
 use Rattle.curves.proofs.loads.LoadCurve.volume_at.Goals as goal
 
-pub overflow-add-volume-at : goal.overflow-add-volume-at
-overflow-add-volume-at g c =
+pub overflow_add-volume_at : goal.overflow_add-volume_at
+overflow_add-volume_at g c =
     let most = g.met.C.Curve.bounded c.args.self.now.curve in
     let tick = c.args.tick in
-    omega (arith, c.volume-at.ensures, most.bounds tick.value tick.low tick.high, most.small)
+    omega (arith, c.volume_at.ensures, most.bounds tick.value tick.low tick.high, most.small)
