@@ -10,7 +10,7 @@ use faults::fault::Fault;
 
 // What a volume leaves after all claims of a kind.
 fn left_after<C: Claim>(volume: u64, claims: &[C]) -> u64
-    ensures { result ≡ volume - sum_by asks claims.now }
+    ensures { result ≡ volume - sum_by C.asks claims.now }
 {
     let mut left = volume;
     for claim in claims {

@@ -7,7 +7,7 @@ use faults::fault::{Fault, Refusal};
 
 // What is left for a claim once another has been served, if that one goes before it.
 fn left_past<C: Claim>(left: u64, other: &C, claim: &C) -> u64
-    ensures { result ≡ left - (if before other.now claim.now then asks other.now else 0) }
+    ensures { result ≡ left - (if C.before other.now claim.now then C.asks other.now else 0) }
 {
     if other.goes_before(claim) {
         left.saturating_sub(other.asked())
@@ -18,7 +18,7 @@ fn left_past<C: Claim>(left: u64, other: &C, claim: &C) -> u64
 
 // What a volume leaves for a claim, after all claims that go before it.
 pub fn left_for<C: Claim>(volume: u64, claims: &[C], claim: &C) -> u64
-    ensures { result ≡ volume - ahead asks before claims.now claim.now }
+    ensures { result ≡ volume - ahead C.asks C.before claims.now claim.now }
 {
     let mut left = volume;
     for other in claims {
@@ -29,7 +29,7 @@ pub fn left_for<C: Claim>(volume: u64, claims: &[C], claim: &C) -> u64
 
 // What one claim receives out of a volume.
 pub fn share<C: Claim>(volume: u64, claims: &[C], claim: &C) -> u64
-    ensures { result ≡ share_of asks before volume claims.now claim.now }
+    ensures { result ≡ share_of C.asks C.before volume claims.now claim.now }
 {
     claim.asked().min(left_for(volume, claims, claim))
 }
@@ -48,7 +48,7 @@ pub(crate) fn check_length<C>(claims: &[C], shares: &[u64]) -> Result<(), Fault>
 // Writes each claim's share.
 pub(crate) fn serve<C: Claim>(volume: u64, claims: &[C], shares: &mut [u64])
     requires { length shares.old ≡ length claims.now }
-    ensures { Shared asks stamp before volume claims.now shares.new }
+    ensures { Shared C.asks C.stamp C.before volume claims.now shares.new }
 {
     for (i, claim) in claims.iter().enumerate() {
         shares[i] = share(volume, claims, claim);
@@ -59,7 +59,7 @@ pub(crate) fn serve<C: Claim>(volume: u64, claims: &[C], shares: &mut [u64])
 // square of their number: 65,536 comparisons at the 256 claims of a full table, and no step for a tick.
 pub fn share_out<C: Claim>(volume: u64, claims: &[C], shares: &mut [u64]) -> Result<(), Fault>
     ensures answer { result ≡ length_answer (length shares.old == length claims.now) }
-    ensures outcome { MatchResult result (λ _. Shared asks stamp before volume claims.now shares.new) (λ _. shares.new ≡ shares.old) }
+    ensures outcome { MatchResult result (λ _. Shared C.asks C.stamp C.before volume claims.now shares.new) (λ _. shares.new ≡ shares.old) }
 {
     check_length(claims, shares)?;
     serve(volume, claims, shares);

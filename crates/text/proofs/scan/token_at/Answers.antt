@@ -11,24 +11,24 @@ returns-then-input-place-eq32 c = record { token = sym (token_space c.args.input
 pub returns-then-input-place-eq10 : goal.returns-then-input-place-eq10
 returns-then-input-place-eq10 c = record { token = sym (token_line c.args.input.now c.args.place c.if-place-input.false c.if-input-place-eq10.true); within = λ h. omega (arith, c.if-place-input.false) }
 
-pub returns-then-is-numeral : goal.returns-then-is-numeral
-returns-then-is-numeral c =
+pub returns-then-is_numeral : goal.returns-then-is_numeral
+returns-then-is_numeral c =
     let b = c.args.input.now in
     let i = c.args.place in
-    let e = c.run-end.ensures.end in
-    let r = the_run b i c.if-place-input.false c.if-input-place-eq32.false c.if-input-place-eq10.false c.run-end.result e in
+    let e = c.run_end.ensures.end in
+    let r = the_run b i c.if-place-input.false c.if-input-place-eq32.false c.if-input-place-eq10.false c.run_end.result e in
     record {
-      token = sym (token_number b i c.if-place-input.false c.if-input-place-eq32.false c.if-input-place-eq10.false c.run-end.result e (sym c.if-is-numeral.ensures));
-      within = λ h. omega (arith, ap length r, e, c.run-end.ensures.within);
+      token = sym (token_number b i c.if-place-input.false c.if-input-place-eq32.false c.if-input-place-eq10.false c.run_end.result e (sym c.if-is_numeral.ensures));
+      within = λ h. omega (arith, ap length r, e, c.run_end.ensures.within);
     }
 
 pub returns : goal.returns
 returns c =
     let b = c.args.input.now in
     let i = c.args.place in
-    let e = c.run-end.ensures.end in
-    let r = the_run b i c.if-place-input.false c.if-input-place-eq32.false c.if-input-place-eq10.false c.run-end.result e in
+    let e = c.run_end.ensures.end in
+    let r = the_run b i c.if-place-input.false c.if-input-place-eq32.false c.if-input-place-eq10.false c.run_end.result e in
     record {
-      token = sym (token_word b i c.if-place-input.false c.if-input-place-eq32.false c.if-input-place-eq10.false c.run-end.result e (sym c.if-is-numeral.ensures));
-      within = λ h. omega (arith, ap length r, e, c.run-end.ensures.within);
+      token = sym (token_word b i c.if-place-input.false c.if-input-place-eq32.false c.if-input-place-eq10.false c.run_end.result e (sym c.if-is_numeral.ensures));
+      within = λ h. omega (arith, ap length r, e, c.run_end.ensures.within);
     }

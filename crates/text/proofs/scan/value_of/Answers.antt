@@ -8,7 +8,7 @@ loop-c-preserved c =
     let i = c.loop-c.c-index in
     let n = c.loop-c.n in
     let step = value_step b i n c.loop-c-test.true in
-    let same : min 4294967296 c.min-n.result ≡ min 4294967296 (n * 10 + (get_or b i 0 - 48)) = omega (arith, c.min-n.ensures, c.saturating-sub.ensures) in (
+    let same : min 4294967296 c.min-n.result ≡ min 4294967296 (n * 10 + (get_or b i 0 - 48)) = omega (arith, c.min-n.ensures, c.saturating_sub.ensures) in (
       omega (arith, c.min-n.ensures),
       capped 4294967296 c.min-n.result (n * 10 + (get_or b i 0 - 48)) (drop (i + 1) b) same ∙ ap (λ v. min 4294967296 v) (sym step) ∙ c.loop-c.invariant.1,
     )

@@ -8,5 +8,5 @@ loop-before-init c = counts_start c.args.n (omega (arith, c.ranges.n))
 pub loop-before-preserved : goal.loop-before-preserved
 loop-before-preserved c = counts_more c.args.n c.loop-before.before c.loop-before.more c.loop-before.invariant c.loop-before-test.true
 
-pub overflow-add-more : goal.overflow-add-more
-overflow-add-more c = omega (arith, c.loop-before.invariant.some c.loop-before-test.true, c.loop-before.invariant.few)
+pub overflow_add-more : goal.overflow_add-more
+overflow_add-more c = omega (arith, c.loop-before.invariant.some c.loop-before-test.true, c.loop-before.invariant.few)

@@ -12,9 +12,9 @@ loop-b-preserved c =
     let end = c.loop-b.end in
     let b = get_or w i 0 in
     let rest = drop (i + 1) w in
-    let mid = c.put-byte-end.new.out in
-    let k = c.put-byte-end.result in
-    let one = write_byte out mid end k b c.put-byte-end.ensures.out c.put-byte-end.ensures.at in
+    let mid = c.put_byte-end.new.out in
+    let k = c.put_byte-end.result in
+    let one = write_byte out mid end k b c.put_byte-end.ensures.out c.put_byte-end.ensures.at in
     let two = write_on out mid (wrote mid k rest) end k (reached mid k rest) (b ∷ []) rest one.0 one.1 refl refl in (
       two.0 ∙ sym (at_drop_more (wrote out end) w i 0 c.loop-b-test.true) ∙ c.loop-b.invariant.0,
       two.1 ∙ sym (at_drop_more (reached out end) w i 0 c.loop-b-test.true) ∙ c.loop-b.invariant.1,

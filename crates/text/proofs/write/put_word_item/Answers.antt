@@ -8,9 +8,9 @@ returns c =
     let out = c.args.out.now in
     let at = c.args.at in
     let bs = c.args.w.now in
-    let one = c.put-word-last.ensures in
-    let two = write_last out c.put-word-last.new.out c.put-byte.new.out at c.put-word-last.result c.put-byte.result bs c.close-byte.result one.out one.at c.put-byte.ensures.out c.put-byte.ensures.at in
+    let one = c.put_word-last.ensures in
+    let two = write_last out c.put_word-last.new.out c.put_byte.new.out at c.put_word-last.result c.put_byte.result bs c.close_byte.result one.out one.at c.put_byte.ensures.out c.put_byte.ensures.at in
     record {
-      out = two.0 ∙ ap (λ b. wrote out at (bs ++ (b ∷ []))) c.close-byte.ensures;
-      at = two.1 ∙ ap (λ b. reached out at (bs ++ (b ∷ []))) c.close-byte.ensures;
+      out = two.0 ∙ ap (λ b. wrote out at (bs ++ (b ∷ []))) c.close_byte.ensures;
+      at = two.1 ∙ ap (λ b. reached out at (bs ++ (b ∷ []))) c.close_byte.ensures;
     }
