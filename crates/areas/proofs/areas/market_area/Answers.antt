@@ -7,6 +7,6 @@ returns c =
     let m = c.args.order.now in
     let from : ℕ = first_beyond m.side c.args.price.value in
     record {
-      is = c.stretch.ensures.sum from ∙ ap (λ (x : ℕ). sum_from (λ _. m.volume) x from) c.ticks-beyond.ensures.is;
+      is = c.stretch.ensures.sum from ∙ ap (λ (x : ℕ). sum_from (λ _. m.volume) x from) c.ticks_beyond.ensures.is;
       fits = c.stretch.ensures.fits;
     }

@@ -8,26 +8,26 @@ use Rattle.curves.specs.declared.sides.Side.TheVariants.{Buy}
 use Rattle.curves.specs.Sequences.{ordered}
 use Rattle.curves.specs.Views.{points}
 
-pub piece-above-area-requires : goal.piece-above-area-requires
-piece-above-area-requires c =
+pub piece_above-area-requires : goal.piece_above-area-requires
+piece_above-area-requires c =
     let n = neighbours Buy c.args.pairs.now c.loop-i.i c.index-pairs-i.result c.index-pairs-i-in-loop-i.result c.loop-i.auto.i c.loop-i-test.true c.index-pairs-i.is c.index-pairs-i-in-loop-i.is c.loop-i.invariant.1 in
     (n.apart, leb-true _ _ n.turn)
 
 -- the two pairs of this turn, and what is left before and after their piece
-near : (c : goal.After-piece-above-area) → Neighbours Buy c.args.pairs.now c.loop-i.i c.index-pairs-i.result c.index-pairs-i-in-loop-i.result
+near : (c : goal.After-piece_above-area) → Neighbours Buy c.args.pairs.now c.loop-i.i c.index-pairs-i.result c.index-pairs-i-in-loop-i.result
 near c = neighbours Buy c.args.pairs.now c.loop-i.i _ _ c.loop-i.auto.i c.loop-i-test.true c.index-pairs-i.is c.index-pairs-i-in-loop-i.is c.loop-i.invariant.1
 
-next : (c : goal.After-piece-above-area) → rest_above c.args.run (points (drop (c.loop-i.i - 1) c.args.pairs.now)) c.args.price.value ≡ c.piece-above-area.result + rest_above c.args.run (points (drop c.loop-i.i c.args.pairs.now)) c.args.price.value
-next c = omega (arith, above_next c.args.run c.args.pairs.now c.loop-i.i c.index-pairs-i.result c.index-pairs-i-in-loop-i.result c.args.price.value (near c), c.piece-above-area.ensures)
+next : (c : goal.After-piece_above-area) → rest_above c.args.run (points (drop (c.loop-i.i - 1) c.args.pairs.now)) c.args.price.value ≡ c.piece_above-area.result + rest_above c.args.run (points (drop c.loop-i.i c.args.pairs.now)) c.args.price.value
+next c = omega (arith, above_next c.args.run c.args.pairs.now c.loop-i.i c.index-pairs-i.result c.index-pairs-i-in-loop-i.result c.args.price.value (near c), c.piece_above-area.ensures)
 
-pub overflow-add-area : goal.overflow-add-area
-overflow-add-area c =
+pub overflow_add-area : goal.overflow_add-area
+overflow_add-area c =
     let ps = c.args.pairs.now in
     let price : ℕ = c.args.price.value in
     let first = c.index-pairs-0.result in
     omega (
       arith,
-      c.flat-above-area.ensures,
+      c.flat_above-area.ensures,
       next c,
       c.loop-i.invariant.0,
       above_whole c.args.run ps first price c.requires.1 c.index-pairs-0.is c.requires.0,
@@ -52,7 +52,7 @@ returns c =
     let price : ℕ = c.args.price.value in
     let z = above_last c.args.run ps (c.loop-i.i - 1) price (omega (arith, c.loop-i-test.false, c.loop-i.auto.i)) in
     let all : c.loop-i.area ≡ area_of Buy (run_shows c.args.run Buy (points ps)) price =
-    omega (arith, z, c.loop-i.invariant.0, c.flat-above-area.ensures, above_whole c.args.run ps first price c.requires.1 c.index-pairs-0.is c.requires.0) in
+    omega (arith, z, c.loop-i.invariant.0, c.flat_above-area.ensures, above_whole c.args.run ps first price c.requires.1 c.index-pairs-0.is c.requires.0) in
     record {
       is = all;
       fits = omega (arith, all, area_fits c.args.run Buy ps price c.args.price.high c.requires.0);

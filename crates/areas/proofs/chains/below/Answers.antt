@@ -8,20 +8,20 @@ use Rattle.curves.specs.declared.sides.Side.TheVariants.{Sell}
 use Rattle.curves.specs.Sequences.{ordered}
 use Rattle.curves.specs.Views.{points}
 
-pub piece-below-area-requires : goal.piece-below-area-requires
-piece-below-area-requires c =
+pub piece_below-area-requires : goal.piece_below-area-requires
+piece_below-area-requires c =
     let n = neighbours Sell c.args.pairs.now c.loop-i.i c.index-pairs-i.result c.index-pairs-i-in-loop-i.result c.loop-i.auto.i c.loop-i-test.true c.index-pairs-i.is c.index-pairs-i-in-loop-i.is c.loop-i.invariant.1 in
     (n.apart, leb-true _ _ n.turn)
 
 -- the two pairs of this turn, and what is left before and after their piece
-near : (c : goal.After-piece-below-area) → Neighbours Sell c.args.pairs.now c.loop-i.i c.index-pairs-i.result c.index-pairs-i-in-loop-i.result
+near : (c : goal.After-piece_below-area) → Neighbours Sell c.args.pairs.now c.loop-i.i c.index-pairs-i.result c.index-pairs-i-in-loop-i.result
 near c = neighbours Sell c.args.pairs.now c.loop-i.i _ _ c.loop-i.auto.i c.loop-i-test.true c.index-pairs-i.is c.index-pairs-i-in-loop-i.is c.loop-i.invariant.1
 
-next : (c : goal.After-piece-below-area) → rest_below c.args.run (points (drop (c.loop-i.i - 1) c.args.pairs.now)) c.args.price.value ≡ c.piece-below-area.result + rest_below c.args.run (points (drop c.loop-i.i c.args.pairs.now)) c.args.price.value
-next c = omega (arith, below_next c.args.run c.args.pairs.now c.loop-i.i c.index-pairs-i.result c.index-pairs-i-in-loop-i.result c.args.price.value (near c), c.piece-below-area.ensures)
+next : (c : goal.After-piece_below-area) → rest_below c.args.run (points (drop (c.loop-i.i - 1) c.args.pairs.now)) c.args.price.value ≡ c.piece_below-area.result + rest_below c.args.run (points (drop c.loop-i.i c.args.pairs.now)) c.args.price.value
+next c = omega (arith, below_next c.args.run c.args.pairs.now c.loop-i.i c.index-pairs-i.result c.index-pairs-i-in-loop-i.result c.args.price.value (near c), c.piece_below-area.ensures)
 
-pub overflow-add-area : goal.overflow-add-area
-overflow-add-area c =
+pub overflow_add-area : goal.overflow_add-area
+overflow_add-area c =
     let ps = c.args.pairs.now in
     let price : ℕ = c.args.price.value in
     omega (
@@ -44,7 +44,7 @@ loop-i-preserved c =
     )
 
 -- what is left after the last neighbours
-rest : (c : goal.After-flat-below) → c.loop-i.area + c.flat-below.result ≡ area_of Sell (run_shows c.args.run Sell (points c.args.pairs.now)) c.args.price.value
+rest : (c : goal.After-flat_below) → c.loop-i.area + c.flat_below.result ≡ area_of Sell (run_shows c.args.run Sell (points c.args.pairs.now)) c.args.price.value
 rest c =
     let ps = c.args.pairs.now in
     let p = c.index-pairs-pairs.result in
@@ -54,13 +54,13 @@ rest c =
     let k : i - 1 ≡ length ps - 1 = omega arith in
     let r : rest_below c.args.run (points (drop (i - 1) ps)) price ≡ rest_below c.args.run (points (drop (length ps - 1) ps)) price = ap (λ (x : ℕ). rest_below c.args.run (points (drop x ps)) price) k in
     let last = below_last c.args.run ps (length ps - 1) p price (omega (arith, c.requires.1)) c.index-pairs-pairs.is in
-    omega (arith, r, last, c.flat-below.ensures, c.loop-i.invariant.0, below_whole c.args.run ps price c.requires.1 c.requires.0)
+    omega (arith, r, last, c.flat_below.ensures, c.loop-i.invariant.0, below_whole c.args.run ps price c.requires.1 c.requires.0)
 
-few : (c : goal.After-flat-below) → c.loop-i.area + c.flat-below.result ≤ 30000000000
+few : (c : goal.After-flat_below) → c.loop-i.area + c.flat_below.result ≤ 30000000000
 few c = omega (arith, rest c, area_fits c.args.run Sell c.args.pairs.now c.args.price.value c.args.price.high c.requires.0)
 
-pub overflow-add-result : goal.overflow-add-result
-overflow-add-result c = omega (arith, few c)
+pub overflow_add-result : goal.overflow_add-result
+overflow_add-result c = omega (arith, few c)
 
 pub returns : goal.returns
 returns c = record {

@@ -19,17 +19,17 @@ there run r p q n m t er en = ap (λ (x : Run). sum_from (between Buy x (point p
 pub returns-in-Level : goal.returns-in-Level
 returns-in-Level c =
     let t : ℕ = max c.args.price.value c.args.p.tick + 1 in
-    c.stretch-low.ensures.sum t ∙ there c.args.run Level c.args.p c.args.q _ _ t c.in-Level.is c.ticks-above-ticks.ensures
+    c.stretch-low.ensures.sum t ∙ there c.args.run Level c.args.p c.args.q _ _ t c.in-Level.is c.ticks_above-ticks.ensures
 
 pub returns-in-Sloped : goal.returns-in-Sloped
 returns-in-Sloped c =
     let p = c.args.p in
     let q = c.args.q in
-    let n : ℕ = c.ticks-above-ticks.result in
+    let n : ℕ = c.ticks_above-ticks.result in
     let d : ℕ = q.tick - p.tick in
     let t : ℕ = max c.args.price.value p.tick + 1 in
-    let short : n ≤ d = omega (arith, c.ticks-above-ticks.ensures) in
-    let e = sum_slope_back (straight (point p) (point q)) q.volume d (p.volume - q.volume) (nudge d) n t q.tick (omega (arith, c.ticks-above-ticks.ensures))
+    let short : n ≤ d = omega (arith, c.ticks_above-ticks.ensures) in
+    let e = sum_slope_back (straight (point p) (point q)) q.volume d (p.volume - q.volume) (nudge d) n t q.tick (omega (arith, c.ticks_above-ticks.ensures))
     (λ i h. straight_down (point p) (point q) i c.requires.0 c.requires.1 (omega arith)) in
     let is : c.stretch-low.result + c.climb.result ≡ sum_from (straight (point p) (point q)) n t = omega (arith, e, c.stretch-low.ensures.is, c.climb.ensures.is) in
-    is ∙ there c.args.run Sloped p q _ _ t c.in-Sloped.is c.ticks-above-ticks.ensures
+    is ∙ there c.args.run Sloped p q _ _ t c.in-Sloped.is c.ticks_above-ticks.ensures

@@ -4,16 +4,16 @@ use Rattle.areas.specs.Slope.{slope_sum, triangle}
 use Rattle.areas.proofs.Euclid.{triangle_few, turn_facts, slope_else, slope_then, slope_fits}
 use Rattle.areas.proofs.slopes.+slope_sum.Goals as goal
 
-pub overflow-mul-whole : goal.overflow-mul-whole
-overflow-mul-whole t c =
+pub overflow_mul-whole : goal.overflow_mul-whole
+overflow_mul-whole t c =
     let n = c.args.n in
     let a = c.args.a in
     let m = c.args.m in
     let q : a / m ≤ 300000 = omega (arith, div-le_self a m, c.requires.1.1.1.0) in
     omega (arith, mul-le c.triangular.result (a / m) 90000000000 300000 (omega (arith, c.triangular.ensures, triangle_few n c.requires.1.1.0)) q)
 
-pub overflow-add-whole : goal.overflow-add-whole
-overflow-add-whole t c =
+pub overflow_add-whole : goal.overflow_add-whole
+overflow_add-whole t c =
     let n = c.args.n in
     let a = c.args.a in
     let b = c.args.b in
@@ -27,8 +27,8 @@ split : (n m a b w r : ℕ) → 0 < m → m ≤ a % m * n + b % m → w ≡ tria
 split n m a b w r some top ew er =
     ap (λ (x : ℕ). x * (a / m) + n * (b / m) + r) ew ∙ (ap (λ (x : ℕ). triangle n * (a / m) + n * (b / m) + x) er ∙ sym (slope_else n m a b some top))
 
-pub slope-sum-requires : goal.slope-sum-requires
-slope-sum-requires t c =
+pub slope_sum-requires : goal.slope_sum-requires
+slope_sum-requires t c =
     let n = c.args.n in
     let m = c.args.m in
     let some = c.requires.0 in
@@ -40,10 +40,10 @@ slope-sum-requires t c =
     let cm : (s * n + r) % m < m = mod_below (s * n + r) m some in
     (omega (arith, c.decreases), (f.0, (omega (arith, c.requires.1.0), (omega (arith, f.1, c.requires.1.1.0), (c.requires.1.0, omega (arith, c.requires.1.0))))))
 
-pub overflow-add-result : goal.overflow-add-result
-overflow-add-result t c =
+pub overflow_add-result : goal.overflow_add-result
+overflow_add-result t c =
     let pre = c.requires in
-    let e = split c.args.n c.args.m c.args.a c.args.b c.triangular.result c.slope-sum.result pre.0 c.if-top-m.false c.triangular.ensures c.slope-sum.ensures in
+    let e = split c.args.n c.args.m c.args.a c.args.b c.triangular.result c.slope_sum.result pre.0 c.if-top-m.false c.triangular.ensures c.slope_sum.ensures in
     omega (arith, e, slope_fits c.args.n c.args.m c.args.a c.args.b pre.1.1.0 pre.1.1.1.0 pre.1.1.1.1)
 
 pub returns-then-top-m : goal.returns-then-top-m
@@ -55,4 +55,4 @@ returns-then-top-m t c =
     ap (λ (x : ℕ). x * (a / m) + n * (b / m)) c.triangular.ensures ∙ sym (slope_then n m a b c.requires.0 c.if-top-m.true)
 
 pub returns-else-top-m : goal.returns-else-top-m
-returns-else-top-m t c = split c.args.n c.args.m c.args.a c.args.b c.triangular.result c.slope-sum.result c.requires.0 c.if-top-m.false c.triangular.ensures c.slope-sum.ensures
+returns-else-top-m t c = split c.args.n c.args.m c.args.a c.args.b c.triangular.result c.slope_sum.result c.requires.0 c.if-top-m.false c.triangular.ensures c.slope_sum.ensures

@@ -5,7 +5,7 @@ use Rattle.book.proofs.tables.count_blocks.Goals as goal
 pub loop-row-preserved : goal.loop-row-preserved
 loop-row-preserved c =
     let one = blocks_step c.args.rows.now c.loop-row.row-index c.row-item.result c.loop-row-test.true c.row-item.is in
-    (omega (arith, one, c.loop-row.invariant.0, c.block-in-count.ensures.is), omega (arith, c.loop-row.invariant.1, c.block-in-count.ensures.few))
+    (omega (arith, one, c.loop-row.invariant.0, c.block_in-count.ensures.is), omega (arith, c.loop-row.invariant.1, c.block_in-count.ensures.few))
 
 pub returns : goal.returns
 returns c =

@@ -3,10 +3,10 @@ use Rattle.std.proofs.lemmas.List.{take_more_set}
 use Rattle.book.proofs.Hourly.{all_added}
 use Rattle.book.proofs.blocks.Blocks.add.Goals as goal
 
-pub invariant-of-self : goal.invariant-of-self
-invariant-of-self c =
+pub invariant_of-self : goal.invariant_of-self
+invariant_of-self c =
     let room : c.args.self.now.count < length c.args.self.now.sets = omega arith in
-    (omega (arith, c.requires.fits), (all_added c.args.self.now.sets c.args.self.now.count c.args.hours room c.args.self.now.proper c.requires.proper, tt))
+    record { few = omega (arith, c.requires.fits); proper = all_added c.args.self.now.sets c.args.self.now.count c.args.hours room c.args.self.now.proper c.requires.proper }
 
 pub returns : goal.returns
 returns c =
