@@ -46,9 +46,9 @@ pub(crate) fn settle<P: Pricer>(
     marks: &mut [Mark],
     results: &mut [HourResult],
 ) -> u32
-    requires { (length blocks.now ≤ 256) × ((length standing.old ≡ length blocks.now) × ((length marks.old ≡ length blocks.now) × ((known pricer.now ≡ length blocks.now) × (length results.old ≡ day_hours)))) }
-    ensures rounds { outcome standing.new marks.new result ≡ rounds_of blocks.now (priced pricer.now) }
-    ensures results { results.new ≡ priced pricer.now standing.new }
+    requires { (length blocks.now ≤ 256) × ((length standing.old ≡ length blocks.now) × ((length marks.old ≡ length blocks.now) × ((P.known pricer.now ≡ length blocks.now) × (length results.old ≡ day_hours)))) }
+    ensures rounds { outcome standing.new marks.new result ≡ rounds_of blocks.now (P.priced pricer.now) }
+    ensures results { results.new ≡ P.priced pricer.now standing.new }
 {
     standing.fill(true);
     marks.fill(Mark::Kept);

@@ -6,7 +6,7 @@ use Rattle.clearing.proofs.claims.limit_claims.Goals as goal
 
 pub loop-i-preserved : goal.loop-i-preserved
 loop-i-preserved c =
-    mapped_more (λ r. limit_of c.args.hour c.args.side c.args.price.value (place_of r)) c.args.rows.now c.loop-i.claims c.loop-i.i c.index-rows-i.result c.limit-claim.result c.loop-i-test.true c.index-rows-i.is c.limit-claim.ensures c.loop-i.invariant
+    mapped_more (λ r. limit_of c.args.hour c.args.side c.args.price.value (place_of r)) c.args.rows.now c.loop-i.claims c.loop-i.i c.index-rows-i.result c.limit_claim.result c.loop-i-test.true c.index-rows-i.is c.limit_claim.ensures c.loop-i.invariant
 
 pub returns : goal.returns
 unfolding places

@@ -8,7 +8,7 @@ use Rattle.clearing.proofs.collecting.collect.Goals as goal
 
 pub loop-i-preserved : goal.loop-i-preserved
 loop-i-preserved c =
-    mapped_more (λ r. block_of (sets_of c.args.products.now) (place_of r)) c.args.rows.now c.loop-i.blocks c.loop-i.i c.index-rows-i.result c.block-of.result c.loop-i-test.true c.index-rows-i.is c.block-of.ensures c.loop-i.invariant
+    mapped_more (λ r. block_of (sets_of c.args.products.now) (place_of r)) c.args.rows.now c.loop-i.blocks c.loop-i.i c.index-rows-i.result c.block_of.result c.loop-i-test.true c.index-rows-i.is c.block_of.ensures c.loop-i.invariant
 
 pub returns : goal.returns
 returns c =

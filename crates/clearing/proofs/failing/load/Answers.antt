@@ -10,6 +10,6 @@ loop-i-init c = search (rules, upto_none)
 pub loop-i-preserved : goal.loop-i-preserved
 loop-i-preserved c = search (rules, upto_more)
 
-pub loop-i-preserved-in-default : goal.loop-i-preserved-in-default
-loop-i-preserved-in-default c =
-    omega (arith, upto_more (adds c.args.blocks.now c.args.standing.now c.args.side c.args.hour) c.loop-i.i, adds_none (get_or c.args.standing.now c.loop-i.i false) c.args.side c.args.hour _ c.in-default.is)
+pub loop-i-preserved-in_default : goal.loop-i-preserved-in_default
+loop-i-preserved-in_default c =
+    omega (arith, upto_more (adds c.args.blocks.now c.args.standing.now c.args.side c.args.hour) c.loop-i.i, adds_none (get_or c.args.standing.now c.loop-i.i false) c.args.side c.args.hour _ c.in_default.is)

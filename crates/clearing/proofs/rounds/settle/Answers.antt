@@ -8,13 +8,13 @@ pub loop-i-init : goal.loop-i-init
 loop-i-init g c =
     (running_first c.args.blocks.now _ c.fill.new.self c.fill-2.new.self _ _ (c.fill.ensures.after (λ y e. e)) (c.fill-2.ensures.after (λ y e. e)) c.requires.1.0 c.requires.1.1.0, c.price.ensures)
 
-pub returns-in-default : goal.returns-in-default
-returns-in-default g c =
+pub returns-in_default : goal.returns-in_default
+returns-in_default g c =
     let p = g.P.Pricer in
     let priced = p.priced c.args.pricer.now in
     let bs = c.args.blocks.now in
     let none : next_drop bs priced c.loop-i.standing ≡ None =
-    found bs priced c.loop-i.standing c.loop-i.results _ c.loop-i.invariant.1 c.lowest-failing.ensures.is ∙ c.in-default.is in
+    found bs priced c.loop-i.standing c.loop-i.results _ c.loop-i.invariant.1 c.lowest_failing.ensures.is ∙ c.in_default.is in
     let done = running_done bs priced c.loop-i.round c.loop-i.standing c.loop-i.marks c.loop-i.invariant.0 none in
     record { rounds = done; results = c.loop-i.invariant.1 }
 
@@ -24,8 +24,8 @@ loop-i-smaller g c =
     let priced = p.priced c.args.pricer.now in
     let bs = c.args.blocks.now in
     let some : next_drop bs priced c.loop-i.standing ≡ Some (c.in-Some.i, c.in-Some.cause) =
-    found bs priced c.loop-i.standing c.loop-i.results _ c.loop-i.invariant.1 c.lowest-failing.ensures.is ∙ c.in-Some.is in
-    omega (arith, fewer bs priced c.loop-i.standing c.in-Some.i c.in-Some.cause c.loop-i.invariant.0.0 some, ap count c.drop-block-round.ensures.standing)
+    found bs priced c.loop-i.standing c.loop-i.results _ c.loop-i.invariant.1 c.lowest_failing.ensures.is ∙ c.in-Some.is in
+    omega (arith, fewer bs priced c.loop-i.standing c.in-Some.i c.in-Some.cause c.loop-i.invariant.0.0 some, ap count c.drop_block-round.ensures.standing)
 
 pub loop-i-preserved : goal.loop-i-preserved
 loop-i-preserved g c =
@@ -33,16 +33,16 @@ loop-i-preserved g c =
     let priced = p.priced c.args.pricer.now in
     let bs = c.args.blocks.now in
     let some : next_drop bs priced c.loop-i.standing ≡ Some (c.in-Some.i, c.in-Some.cause) =
-    found bs priced c.loop-i.standing c.loop-i.results _ c.loop-i.invariant.1 c.lowest-failing.ensures.is ∙ c.in-Some.is in
-    (running_step bs priced c.loop-i.round c.loop-i.standing c.loop-i.marks c.in-Some.i c.in-Some.cause _ _ _ c.loop-i.invariant.0 some c.drop-block-round.ensures.next c.drop-block-round.ensures.standing c.drop-block-round.ensures.marks, c.reprice.ensures)
+    found bs priced c.loop-i.standing c.loop-i.results _ c.loop-i.invariant.1 c.lowest_failing.ensures.is ∙ c.in-Some.is in
+    (running_step bs priced c.loop-i.round c.loop-i.standing c.loop-i.marks c.in-Some.i c.in-Some.cause _ _ _ c.loop-i.invariant.0 some c.drop_block-round.ensures.next c.drop_block-round.ensures.standing c.drop_block-round.ensures.marks, c.reprice.ensures)
 
-pub drop-block-round-requires : goal.drop-block-round-requires
-drop-block-round-requires g c =
+pub drop_block-round-requires : goal.drop_block-round-requires
+drop_block-round-requires g c =
     let p = g.P.Pricer in
     let priced = p.priced c.args.pricer.now in
     let bs = c.args.blocks.now in
     let some : next_drop bs priced c.loop-i.standing ≡ Some (c.in-Some.i, c.in-Some.cause) =
-    found bs priced c.loop-i.standing c.loop-i.results _ c.loop-i.invariant.1 c.lowest-failing.ensures.is ∙ c.in-Some.is in
+    found bs priced c.loop-i.standing c.loop-i.results _ c.loop-i.invariant.1 c.lowest_failing.ensures.is ∙ c.in-Some.is in
     let less = fewer bs priced c.loop-i.standing c.in-Some.i c.in-Some.cause c.loop-i.invariant.0.0 some in
     let within = (drop_stands bs priced c.loop-i.standing (c.in-Some.i, c.in-Some.cause) some).0 in
     let run = c.loop-i.invariant.0 in
@@ -58,9 +58,9 @@ reprice-requires g c =
     let fs = c.loop-i.standing in
     let i = c.in-Some.i in
     let some : next_drop bs priced fs ≡ Some (i, c.in-Some.cause) =
-    found bs priced fs c.loop-i.results _ c.loop-i.invariant.1 c.lowest-failing.ensures.is ∙ c.in-Some.is in
+    found bs priced fs c.loop-i.results _ c.loop-i.invariant.1 c.lowest_failing.ensures.is ∙ c.in-Some.is in
     let s = drop_stands bs priced fs (i, c.in-Some.cause) some in
-    let put = c.drop-block-round.ensures.standing in
-    let back : fs ≡ set c.drop-block-round.new.standing i true = sym (ap (λ l. set l i true) put ∙ set-set fs i false true ∙ ap (λ v. set fs i v) (sym s.1) ∙ set-get_or fs i false) in
-    let long : length c.drop-block-round.new.standing ≡ length bs = ap length put ∙ length-set fs i false ∙ c.loop-i.invariant.0.0 in
+    let put = c.drop_block-round.ensures.standing in
+    let back : fs ≡ set c.drop_block-round.new.standing i true = sym (ap (λ l. set l i true) put ∙ set-set fs i false true ∙ ap (λ v. set fs i v) (sym s.1) ∙ set-get_or fs i false) in
+    let long : length c.drop_block-round.new.standing ≡ length bs = ap length put ∙ length-set fs i false ∙ c.loop-i.invariant.0.0 in
     (long ∙ sym c.requires.1.1.1.0, (omega (arith, long, s.0), (omega arith, c.loop-i.invariant.1 ∙ ap priced back)))

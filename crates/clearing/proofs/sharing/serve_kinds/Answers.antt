@@ -5,5 +5,5 @@ use Rattle.clearing.proofs.sharing.serve_kinds.Goals as goal
 
 pub returns : goal.returns
 returns c =
-    let turn = (MatchResult-at_ok _ _ c.unwrap.result c.unwrap.ensures c.share-kinds.ensures.outcome).in_turn in
-    c.join-kinds.ensures ∙ joined_same turn.first turn.second turn.third 256
+    let turn = (MatchResult-at_ok _ _ c.unwrap.result c.unwrap.ensures c.share_kinds.ensures.outcome).in_turn in
+    c.join_kinds.ensures ∙ joined_same turn.first turn.second turn.third 256

@@ -19,9 +19,9 @@ returns c =
     let short : length rows ≤ 256 = omega (arith, c.requires.tables) in
     let within : h < 24 = omega (arith, c.requires.low, c.requires.high) in
     let n : 256 ≡ length ps = omega (arith, c.requires.tables, places_length rows) in
-    let buys : c.side-shares.new.shares ≡ on Buy = c.side-shares.ensures ∙ ap (λ t. side_shares ps sets ms h t Buy c.shared-out-bought.result) c.requires.priced ∙ ap (side_shares ps sets ms h r.price Buy) c.shared-out-bought.ensures in
-    let sells : c.side-shares-2.new.shares ≡ on Sell = c.side-shares-2.ensures ∙ ap (λ t. side_shares ps sets ms h t Sell c.shared-out-sold.result) c.requires.priced ∙ ap (side_shares ps sets ms h r.price Sell) c.shared-out-sold.ensures in
+    let buys : c.side_shares.new.shares ≡ on Buy = c.side_shares.ensures ∙ ap (λ t. side_shares ps sets ms h t Buy c.shared_out-bought.result) c.requires.priced ∙ ap (side_shares ps sets ms h r.price Buy) c.shared_out-bought.ensures in
+    let sells : c.side_shares-2.new.shares ≡ on Sell = c.side_shares-2.ensures ∙ ap (λ t. side_shares ps sets ms h t Sell c.shared_out-sold.result) c.requires.priced ∙ ap (side_shares ps sets ms h r.price Sell) c.shared_out-sold.ensures in
     record {
-      is = c.join-sides.ensures ∙ ap (λ (xs : List ℕ). both_sides xs c.side-shares-2.new.shares 256) buys ∙ ap (λ (xs : List ℕ). both_sides (on Buy) xs 256) sells ∙ ap (both_sides (on Buy) (on Sell)) n;
+      is = c.join_sides.ensures ∙ ap (λ (xs : List ℕ). both_sides xs c.side_shares-2.new.shares 256) buys ∙ ap (λ (xs : List ℕ). both_sides (on Buy) xs 256) sells ∙ ap (both_sides (on Buy) (on Sell)) n;
       shared = hour_shared rows sets ms h r c.args.filled short within;
     }

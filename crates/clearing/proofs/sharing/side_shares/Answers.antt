@@ -25,13 +25,13 @@ returns c =
     let back : c.args.hour ≡ h + 1 = omega arith in
     let within : h < 24 = omega arith in
     let cs = row_claims ps sets ms h t side in
-    let xs : c.block-claims.new.claims ≡ map first_of cs = c.block-claims.ensures ∙ ap (λ (bs : List (Option Block)). tabled (λ k. block_claim (is_kept (get_or ms k Kept)) side h (get_or bs k None)) (length bs)) c.collect.ensures.is ∙ first_is ps sets ms h t side within in
-    let ys : c.market-claims.new.claims ≡ map second_of cs = c.market-claims.ensures ∙ ap (λ m. map (market_of m side) ps) back ∙ second_is ps sets ms h t side within in
-    let zs : c.limit-claims.new.claims ≡ map third_of cs = c.limit-claims.ensures ∙ ap (λ m. map (limit_of m side t) ps) back ∙ third_is ps sets ms h t side within in
+    let xs : c.block_claims.new.claims ≡ map first_of cs = c.block_claims.ensures ∙ ap (λ (bs : List (Option Block)). tabled (λ k. block_claim (is_kept (get_or ms k Kept)) side h (get_or bs k None)) (length bs)) c.collect.ensures.is ∙ first_is ps sets ms h t side within in
+    let ys : c.market_claims.new.claims ≡ map second_of cs = c.market_claims.ensures ∙ ap (λ m. map (market_of m side) ps) back ∙ second_is ps sets ms h t side within in
+    let zs : c.limit_claims.new.claims ≡ map third_of cs = c.limit_claims.ensures ∙ ap (λ m. map (limit_of m side t) ps) back ∙ third_is ps sets ms h t side within in
     let n : 256 ≡ length ps = omega (arith, places_length c.args.rows.now) in
-    c.serve-kinds.ensures
-    ∙ ap (λ (x : List (Option BlockClaim)). served_in_turn volume x c.market-claims.new.claims c.limit-claims.new.claims 256) xs
-    ∙ ap (λ (y : List (Option MarketClaim)). served_in_turn volume (map first_of cs) y c.limit-claims.new.claims 256) ys
+    c.serve_kinds.ensures
+    ∙ ap (λ (x : List (Option BlockClaim)). served_in_turn volume x c.market_claims.new.claims c.limit_claims.new.claims 256) xs
+    ∙ ap (λ (y : List (Option MarketClaim)). served_in_turn volume (map first_of cs) y c.limit_claims.new.claims 256) ys
     ∙ ap (λ (z : List (Option LimitClaim)). served_in_turn volume (map first_of cs) (map second_of cs) z 256) zs
     ∙ ap (served_in_turn volume (map first_of cs) (map second_of cs) (map third_of cs)) n
     ∙ turn_is_rule ps sets ms h t side within volume

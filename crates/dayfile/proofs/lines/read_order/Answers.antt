@@ -23,88 +23,88 @@ g2 _ = then (item (number 1 38) 32) g3
 abbrev g1 : ℕ → Format (ℕ × (ℕ × (Side × Form)))
 g1 _ = then (item (number 1 999) 32) g2
 
-pub returns-in-err-row : goal.returns-in-err-row
-returns-in-err-row c =
+pub returns-in_err-row : goal.returns-in_err-row
+returns-in_err-row c =
     let l = c.args.line in
     let s0 = c.args.reader.now in
-    let r = c.from-residual.result in
+    let r = c.from_residual.result in
     record {
-      told = viewed_err asked_of r c.in-err-row.field-0.0 c.read-row.new.reader c.from-residual.ensures.1 ∙ order_told l s0 _
-          (then_no (item (number 0 255) 32) g1 l s0 _ c.in-err-row.ensures.told);
-      input = c.read-row.ensures.input;
-      few = IfOk-from_err r (λ d. too_many d.terms ≡ false) c.from-residual.ensures.0;
+      told = viewed_err asked_of r c.in_err-row.field-0.0 c.read_row.new.reader c.from_residual.ensures.1 ∙ order_told l s0 _
+          (then_no (item (number 0 255) 32) g1 l s0 _ c.in_err-row.ensures.told);
+      input = c.read_row.ensures.input;
+      few = IfOk-from_err r (λ d. too_many d.terms ≡ false) c.from_residual.ensures.0;
       faithful = faithful_order;
     }
 
-pub returns-in-err-member : goal.returns-in-err-member
-returns-in-err-member c =
+pub returns-in_err-member : goal.returns-in_err-member
+returns-in_err-member c =
     let l = c.args.line in
     let s0 = c.args.reader.now in
-    let s1 = c.read-row.new.reader in
-    let r = c.from-residual-in-err-member.result in
+    let s1 = c.read_row.new.reader in
+    let r = c.from_residual-in_err-member.result in
     record {
-      told = viewed_err asked_of r c.in-err-member.field-0.0 c.read-member.new.reader c.from-residual-in-err-member.ensures.1 ∙ order_told l s0 _
-          (then_on (item (number 0 255) 32) g1 l s0 s1 c.in-ok-row.row _ c.in-ok-row.ensures.told
-          (then_no (item (number 1 999) 32) g2 l s1 _ c.in-err-member.ensures.told));
-      input = c.read-member.ensures.input ∙ c.read-row.ensures.input;
-      few = IfOk-from_err r (λ d. too_many d.terms ≡ false) c.from-residual-in-err-member.ensures.0;
+      told = viewed_err asked_of r c.in_err-member.field-0.0 c.read_member.new.reader c.from_residual-in_err-member.ensures.1 ∙ order_told l s0 _
+          (then_on (item (number 0 255) 32) g1 l s0 s1 c.in_ok-row.row _ c.in_ok-row.ensures.told
+          (then_no (item (number 1 999) 32) g2 l s1 _ c.in_err-member.ensures.told));
+      input = c.read_member.ensures.input ∙ c.read_row.ensures.input;
+      few = IfOk-from_err r (λ d. too_many d.terms ≡ false) c.from_residual-in_err-member.ensures.0;
       faithful = faithful_order;
     }
 
-pub returns-in-err-product : goal.returns-in-err-product
-returns-in-err-product c =
+pub returns-in_err-product : goal.returns-in_err-product
+returns-in_err-product c =
     let l = c.args.line in
     let s0 = c.args.reader.now in
-    let s1 = c.read-row.new.reader in
-    let s2 = c.read-member.new.reader in
-    let r = c.from-residual-in-err-product.result in
+    let s1 = c.read_row.new.reader in
+    let s2 = c.read_member.new.reader in
+    let r = c.from_residual-in_err-product.result in
     record {
-      told = viewed_err asked_of r c.in-err-product.field-0.0 c.read-product.new.reader c.from-residual-in-err-product.ensures.1 ∙ order_told l s0 _
-          (then_on (item (number 0 255) 32) g1 l s0 s1 c.in-ok-row.row _ c.in-ok-row.ensures.told
-          (then_on (item (number 1 999) 32) g2 l s1 s2 c.in-ok-member.member _ c.in-ok-member.ensures.told
-          (then_no (item (number 1 38) 32) g3 l s2 _ c.in-err-product.ensures.told)));
-      input = c.read-product.ensures.input ∙ c.read-member.ensures.input ∙ c.read-row.ensures.input;
-      few = IfOk-from_err r (λ d. too_many d.terms ≡ false) c.from-residual-in-err-product.ensures.0;
+      told = viewed_err asked_of r c.in_err-product.field-0.0 c.read_product.new.reader c.from_residual-in_err-product.ensures.1 ∙ order_told l s0 _
+          (then_on (item (number 0 255) 32) g1 l s0 s1 c.in_ok-row.row _ c.in_ok-row.ensures.told
+          (then_on (item (number 1 999) 32) g2 l s1 s2 c.in_ok-member.member _ c.in_ok-member.ensures.told
+          (then_no (item (number 1 38) 32) g3 l s2 _ c.in_err-product.ensures.told)));
+      input = c.read_product.ensures.input ∙ c.read_member.ensures.input ∙ c.read_row.ensures.input;
+      few = IfOk-from_err r (λ d. too_many d.terms ≡ false) c.from_residual-in_err-product.ensures.0;
       faithful = faithful_order;
     }
 
-pub returns-in-err-word : goal.returns-in-err-word
-returns-in-err-word c =
+pub returns-in_err-word : goal.returns-in_err-word
+returns-in_err-word c =
     let l = c.args.line in
     let s0 = c.args.reader.now in
-    let s1 = c.read-row.new.reader in
-    let s2 = c.read-member.new.reader in
-    let s3 = c.read-product.new.reader in
-    let r = c.from-residual-in-err-word.result in
+    let s1 = c.read_row.new.reader in
+    let s2 = c.read_member.new.reader in
+    let s3 = c.read_product.new.reader in
+    let r = c.from_residual-in_err-word.result in
     record {
-      told = viewed_err asked_of r c.in-err-word.field-0.0 c.word.new.self c.from-residual-in-err-word.ensures.1 ∙ order_told l s0 _
-          (then_on (item (number 0 255) 32) g1 l s0 s1 c.in-ok-row.row _ c.in-ok-row.ensures.told
-          (then_on (item (number 1 999) 32) g2 l s1 s2 c.in-ok-member.member _ c.in-ok-member.ensures.told
-          (then_on (item (number 1 38) 32) g3 l s2 s3 c.in-ok-product.product _ c.in-ok-product.ensures.told
-          (then_no side_text (λ _. form_text) l s3 _ (side_told l s3 _ c.in-err-word.ensures.told)))));
-      input = c.word.ensures.input ∙ c.read-product.ensures.input ∙ c.read-member.ensures.input ∙ c.read-row.ensures.input;
-      few = IfOk-from_err r (λ d. too_many d.terms ≡ false) c.from-residual-in-err-word.ensures.0;
+      told = viewed_err asked_of r c.in_err-word.field-0.0 c.word.new.self c.from_residual-in_err-word.ensures.1 ∙ order_told l s0 _
+          (then_on (item (number 0 255) 32) g1 l s0 s1 c.in_ok-row.row _ c.in_ok-row.ensures.told
+          (then_on (item (number 1 999) 32) g2 l s1 s2 c.in_ok-member.member _ c.in_ok-member.ensures.told
+          (then_on (item (number 1 38) 32) g3 l s2 s3 c.in_ok-product.product _ c.in_ok-product.ensures.told
+          (then_no side_text (λ _. form_text) l s3 _ (side_told l s3 _ c.in_err-word.ensures.told)))));
+      input = c.word.ensures.input ∙ c.read_product.ensures.input ∙ c.read_member.ensures.input ∙ c.read_row.ensures.input;
+      few = IfOk-from_err r (λ d. too_many d.terms ≡ false) c.from_residual-in_err-word.ensures.0;
       faithful = faithful_order;
     }
 
-pub returns-in-err-terms : goal.returns-in-err-terms
-returns-in-err-terms c =
+pub returns-in_err-terms : goal.returns-in_err-terms
+returns-in_err-terms c =
     let l = c.args.line in
     let s0 = c.args.reader.now in
-    let s1 = c.read-row.new.reader in
-    let s2 = c.read-member.new.reader in
-    let s3 = c.read-product.new.reader in
+    let s1 = c.read_row.new.reader in
+    let s2 = c.read_member.new.reader in
+    let s3 = c.read_product.new.reader in
     let s4 = c.word.new.self in
-    let r = c.from-residual-in-err-terms.result in
+    let r = c.from_residual-in_err-terms.result in
     record {
-      told = viewed_err asked_of r c.in-err-terms.field-0.0 c.read-terms.new.reader c.from-residual-in-err-terms.ensures.1 ∙ order_told l s0 _
-          (then_on (item (number 0 255) 32) g1 l s0 s1 c.in-ok-row.row _ c.in-ok-row.ensures.told
-          (then_on (item (number 1 999) 32) g2 l s1 s2 c.in-ok-member.member _ c.in-ok-member.ensures.told
-          (then_on (item (number 1 38) 32) g3 l s2 s3 c.in-ok-product.product _ c.in-ok-product.ensures.told
-          (then_on side_text (λ _. form_text) l s3 s4 c.in-ok-word.word.side _ (side_told l s3 _ c.in-ok-word.ensures.told)
-          c.in-err-terms.ensures.told))));
-      input = c.read-terms.ensures.input ∙ c.word.ensures.input ∙ c.read-product.ensures.input ∙ c.read-member.ensures.input ∙ c.read-row.ensures.input;
-      few = IfOk-from_err r (λ d. too_many d.terms ≡ false) c.from-residual-in-err-terms.ensures.0;
+      told = viewed_err asked_of r c.in_err-terms.field-0.0 c.read_terms.new.reader c.from_residual-in_err-terms.ensures.1 ∙ order_told l s0 _
+          (then_on (item (number 0 255) 32) g1 l s0 s1 c.in_ok-row.row _ c.in_ok-row.ensures.told
+          (then_on (item (number 1 999) 32) g2 l s1 s2 c.in_ok-member.member _ c.in_ok-member.ensures.told
+          (then_on (item (number 1 38) 32) g3 l s2 s3 c.in_ok-product.product _ c.in_ok-product.ensures.told
+          (then_on side_text (λ _. form_text) l s3 s4 c.in_ok-word.word.side _ (side_told l s3 _ c.in_ok-word.ensures.told)
+          c.in_err-terms.ensures.told))));
+      input = c.read_terms.ensures.input ∙ c.word.ensures.input ∙ c.read_product.ensures.input ∙ c.read_member.ensures.input ∙ c.read_row.ensures.input;
+      few = IfOk-from_err r (λ d. too_many d.terms ≡ false) c.from_residual-in_err-terms.ensures.0;
       faithful = faithful_order;
     }
 
@@ -112,19 +112,19 @@ pub returns : goal.returns
 returns c =
     let l = c.args.line in
     let s0 = c.args.reader.now in
-    let s1 = c.read-row.new.reader in
-    let s2 = c.read-member.new.reader in
-    let s3 = c.read-product.new.reader in
+    let s1 = c.read_row.new.reader in
+    let s2 = c.read_member.new.reader in
+    let s3 = c.read_product.new.reader in
     let s4 = c.word.new.self in
-    let s5 = c.read-terms.new.reader in
+    let s5 = c.read_terms.new.reader in
     record {
       told = ap (λ a. got a s5.at (ahead s5)) (asked_is _) ∙ order_told l s0 _
-          (then_on (item (number 0 255) 32) g1 l s0 s1 c.in-ok-row.row _ c.in-ok-row.ensures.told
-          (then_on (item (number 1 999) 32) g2 l s1 s2 c.in-ok-member.member _ c.in-ok-member.ensures.told
-          (then_on (item (number 1 38) 32) g3 l s2 s3 c.in-ok-product.product _ c.in-ok-product.ensures.told
-          (then_on side_text (λ _. form_text) l s3 s4 c.in-ok-word.word.side _ (side_told l s3 _ c.in-ok-word.ensures.told)
-          c.in-ok-terms.ensures.told))));
-      input = c.read-terms.ensures.input ∙ c.word.ensures.input ∙ c.read-product.ensures.input ∙ c.read-member.ensures.input ∙ c.read-row.ensures.input;
-      few = c.in-ok-terms.ensures.few;
+          (then_on (item (number 0 255) 32) g1 l s0 s1 c.in_ok-row.row _ c.in_ok-row.ensures.told
+          (then_on (item (number 1 999) 32) g2 l s1 s2 c.in_ok-member.member _ c.in_ok-member.ensures.told
+          (then_on (item (number 1 38) 32) g3 l s2 s3 c.in_ok-product.product _ c.in_ok-product.ensures.told
+          (then_on side_text (λ _. form_text) l s3 s4 c.in_ok-word.word.side _ (side_told l s3 _ c.in_ok-word.ensures.told)
+          c.in_ok-terms.ensures.told))));
+      input = c.read_terms.ensures.input ∙ c.word.ensures.input ∙ c.read_product.ensures.input ∙ c.read_member.ensures.input ∙ c.read_row.ensures.input;
+      few = c.in_ok-terms.ensures.few;
       faithful = faithful_order;
     }

@@ -11,94 +11,94 @@ use Rattle.dayfile.specs.Lines.{body}
 use Rattle.dayfile.proofs.Chains.{viewed_err, form_told}
 use Rattle.dayfile.proofs.lines.read_terms.Goals as goal
 
-pub returns-in-err-kind : goal.returns-in-err-kind
-returns-in-err-kind c =
+pub returns-in_err-kind : goal.returns-in_err-kind
+returns-in_err-kind c =
     let l = c.args.line in
     let s = c.args.reader.now in
     record {
-      told = viewed_err form_of c.from-residual.result c.in-err-kind.field-0.0 c.word.new.self c.from-residual.ensures.1 ∙ form_told l s _
-          (then_no (item kind_word 32) body l s _ c.in-err-kind.ensures.told);
+      told = viewed_err form_of c.from_residual.result c.in_err-kind.field-0.0 c.word.new.self c.from_residual.ensures.1 ∙ form_told l s _
+          (then_no (item kind_word 32) body l s _ c.in_err-kind.ensures.told);
       input = c.word.ensures.input;
-      few = IfOk-from_err c.from-residual.result (λ t. too_many t ≡ false) c.from-residual.ensures.0;
+      few = IfOk-from_err c.from_residual.result (λ t. too_many t ≡ false) c.from_residual.ensures.0;
     }
 
-pub returns-in-err-volume : goal.returns-in-err-volume
-returns-in-err-volume c =
-    let r = c.from-residual-in-err-volume.result in
+pub returns-in_err-volume-in-Market : goal.returns-in_err-volume-in-Market
+returns-in_err-volume-in-Market c =
+    let r = c.from_residual-in_err-volume-in-Market.result in
     let l = c.args.line in
     let s = c.args.reader.now in
     let t = c.word.new.self in
     record {
-      told = viewed_err form_of r c.in-err-volume.field-0.0 c.number.new.self c.from-residual-in-err-volume.ensures.1 ∙ form_told l s _
-          (then_on (item kind_word 32) body l s t c.in-ok-kind.kind _ c.in-ok-kind.ensures.told
-          (ap (λ o. onward o (λ a q cs. got (flat a) q cs)) c.in-err-volume.ensures.told ∙ ap (λ k. (body k).read l t.at (ahead t)) (sym c.in-Market.is)));
+      told = viewed_err form_of r c.in_err-volume-in-Market.field-0.0 c.number.new.self c.from_residual-in_err-volume-in-Market.ensures.1 ∙ form_told l s _
+          (then_on (item kind_word 32) body l s t c.in_ok-kind.kind _ c.in_ok-kind.ensures.told
+          (ap (λ o. onward o (λ a q cs. got (flat a) q cs)) c.in_err-volume-in-Market.ensures.told ∙ ap (λ k. (body k).read l t.at (ahead t)) (sym c.in-Market.is)));
       input = c.number.ensures.input ∙ c.word.ensures.input;
-      few = IfOk-from_err r (λ t. too_many t ≡ false) c.from-residual-in-err-volume.ensures.0;
+      few = IfOk-from_err r (λ t. too_many t ≡ false) c.from_residual-in_err-volume-in-Market.ensures.0;
     }
 
-pub returns-in-ok-volume : goal.returns-in-ok-volume
-returns-in-ok-volume c =
+pub returns-in_ok-volume-in-Market : goal.returns-in_ok-volume-in-Market
+returns-in_ok-volume-in-Market c =
     let l = c.args.line in
     let s = c.args.reader.now in
     let t = c.word.new.self in
     record {
       told = form_told l s _
-          (then_on (item kind_word 32) body l s t c.in-ok-kind.kind _ c.in-ok-kind.ensures.told
-          (ap (λ o. onward o (λ a q cs. got (flat a) q cs)) c.in-ok-volume.ensures.told ∙ ap (λ k. (body k).read l t.at (ahead t)) (sym c.in-Market.is)));
+          (then_on (item kind_word 32) body l s t c.in_ok-kind.kind _ c.in_ok-kind.ensures.told
+          (ap (λ o. onward o (λ a q cs. got (flat a) q cs)) c.in_ok-volume-in-Market.ensures.told ∙ ap (λ k. (body k).read l t.at (ahead t)) (sym c.in-Market.is)));
       input = c.number.ensures.input ∙ c.word.ensures.input;
       few = refl;
     }
 
-pub returns-in-err-steps : goal.returns-in-err-steps
-returns-in-err-steps c =
-    let r = c.from-residual-in-err-steps.result in
+pub returns-in_err-steps-in-Step : goal.returns-in_err-steps-in-Step
+returns-in_err-steps-in-Step c =
+    let r = c.from_residual-in_err-steps-in-Step.result in
     let l = c.args.line in
     let s = c.args.reader.now in
     let t = c.word.new.self in
     record {
-      told = viewed_err form_of r c.in-err-steps.field-0.0 c.read-quotes.new.reader c.from-residual-in-err-steps.ensures.1 ∙ form_told l s _
-          (then_on (item kind_word 32) body l s t c.in-ok-kind.kind _ c.in-ok-kind.ensures.told
-          (ap (λ o. onward o (λ a q cs. got (stairs a) q cs)) c.in-err-steps.ensures.told ∙ ap (λ k. (body k).read l t.at (ahead t)) (sym c.in-Step.is)));
-      input = c.read-quotes.ensures.input ∙ c.word.ensures.input;
-      few = IfOk-from_err r (λ t. too_many t ≡ false) c.from-residual-in-err-steps.ensures.0;
+      told = viewed_err form_of r c.in_err-steps-in-Step.field-0.0 c.read_quotes.new.reader c.from_residual-in_err-steps-in-Step.ensures.1 ∙ form_told l s _
+          (then_on (item kind_word 32) body l s t c.in_ok-kind.kind _ c.in_ok-kind.ensures.told
+          (ap (λ o. onward o (λ a q cs. got (stairs a) q cs)) c.in_err-steps-in-Step.ensures.told ∙ ap (λ k. (body k).read l t.at (ahead t)) (sym c.in-Step.is)));
+      input = c.read_quotes.ensures.input ∙ c.word.ensures.input;
+      few = IfOk-from_err r (λ t. too_many t ≡ false) c.from_residual-in_err-steps-in-Step.ensures.0;
     }
 
-pub returns-in-ok-steps : goal.returns-in-ok-steps
-returns-in-ok-steps c =
+pub returns-in_ok-steps-in-Step : goal.returns-in_ok-steps-in-Step
+returns-in_ok-steps-in-Step c =
     let l = c.args.line in
     let s = c.args.reader.now in
     let t = c.word.new.self in
     record {
       told = form_told l s _
-          (then_on (item kind_word 32) body l s t c.in-ok-kind.kind _ c.in-ok-kind.ensures.told
-          (ap (λ o. onward o (λ a q cs. got (stairs a) q cs)) c.in-ok-steps.ensures.told ∙ ap (λ k. (body k).read l t.at (ahead t)) (sym c.in-Step.is)));
-      input = c.read-quotes.ensures.input ∙ c.word.ensures.input;
-      few = le-ltb _ _ c.in-ok-steps.ensures.few;
+          (then_on (item kind_word 32) body l s t c.in_ok-kind.kind _ c.in_ok-kind.ensures.told
+          (ap (λ o. onward o (λ a q cs. got (stairs a) q cs)) c.in_ok-steps-in-Step.ensures.told ∙ ap (λ k. (body k).read l t.at (ahead t)) (sym c.in-Step.is)));
+      input = c.read_quotes.ensures.input ∙ c.word.ensures.input;
+      few = le-ltb _ _ c.in_ok-steps-in-Step.ensures.few;
     }
 
-pub returns-in-err-slopes : goal.returns-in-err-slopes
-returns-in-err-slopes c =
-    let r = c.from-residual-in-err-slopes.result in
+pub returns-in_err-slopes-in-Linear : goal.returns-in_err-slopes-in-Linear
+returns-in_err-slopes-in-Linear c =
+    let r = c.from_residual-in_err-slopes-in-Linear.result in
     let l = c.args.line in
     let s = c.args.reader.now in
     let t = c.word.new.self in
     record {
-      told = viewed_err form_of r c.in-err-slopes.field-0.0 c.read-quotes-in-Linear.new.reader c.from-residual-in-err-slopes.ensures.1 ∙ form_told l s _
-          (then_on (item kind_word 32) body l s t c.in-ok-kind.kind _ c.in-ok-kind.ensures.told
-          (ap (λ o. onward o (λ a q cs. got (slopes a) q cs)) c.in-err-slopes.ensures.told ∙ ap (λ k. (body k).read l t.at (ahead t)) (sym c.in-Linear.is)));
-      input = c.read-quotes-in-Linear.ensures.input ∙ c.word.ensures.input;
-      few = IfOk-from_err r (λ t. too_many t ≡ false) c.from-residual-in-err-slopes.ensures.0;
+      told = viewed_err form_of r c.in_err-slopes-in-Linear.field-0.0 c.read_quotes-in-Linear.new.reader c.from_residual-in_err-slopes-in-Linear.ensures.1 ∙ form_told l s _
+          (then_on (item kind_word 32) body l s t c.in_ok-kind.kind _ c.in_ok-kind.ensures.told
+          (ap (λ o. onward o (λ a q cs. got (slopes a) q cs)) c.in_err-slopes-in-Linear.ensures.told ∙ ap (λ k. (body k).read l t.at (ahead t)) (sym c.in-Linear.is)));
+      input = c.read_quotes-in-Linear.ensures.input ∙ c.word.ensures.input;
+      few = IfOk-from_err r (λ t. too_many t ≡ false) c.from_residual-in_err-slopes-in-Linear.ensures.0;
     }
 
-pub returns-in-ok-slopes : goal.returns-in-ok-slopes
-returns-in-ok-slopes c =
+pub returns-in_ok-slopes-in-Linear : goal.returns-in_ok-slopes-in-Linear
+returns-in_ok-slopes-in-Linear c =
     let l = c.args.line in
     let s = c.args.reader.now in
     let t = c.word.new.self in
     record {
       told = form_told l s _
-          (then_on (item kind_word 32) body l s t c.in-ok-kind.kind _ c.in-ok-kind.ensures.told
-          (ap (λ o. onward o (λ a q cs. got (slopes a) q cs)) c.in-ok-slopes.ensures.told ∙ ap (λ k. (body k).read l t.at (ahead t)) (sym c.in-Linear.is)));
-      input = c.read-quotes-in-Linear.ensures.input ∙ c.word.ensures.input;
-      few = le-ltb _ _ c.in-ok-slopes.ensures.few;
+          (then_on (item kind_word 32) body l s t c.in_ok-kind.kind _ c.in_ok-kind.ensures.told
+          (ap (λ o. onward o (λ a q cs. got (slopes a) q cs)) c.in_ok-slopes-in-Linear.ensures.told ∙ ap (λ k. (body k).read l t.at (ahead t)) (sym c.in-Linear.is)));
+      input = c.read_quotes-in-Linear.ensures.input ∙ c.word.ensures.input;
+      few = le-ltb _ _ c.in_ok-slopes-in-Linear.ensures.few;
     }

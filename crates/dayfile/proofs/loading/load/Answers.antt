@@ -10,13 +10,13 @@ use Rattle.dayfile.proofs.Fitting.{loads_its_text}
 use Rattle.dayfile.proofs.Openings.{places_blank, places_empty, day_read, day_refused, fitting, unfitting, rows_256, lengths_told}
 use Rattle.dayfile.proofs.loading.load.Goals as goal
 
-pub returns-then-not-right-lengths : goal.returns-then-not-right-lengths
-returns-then-not-right-lengths g c =
+pub returns-then-not-right_lengths : goal.returns-then-not-right_lengths
+returns-then-not-right_lengths g c =
     let n = length c.args.rows.now in
     let s = c.args.reader.now in
-    let no = unfitting _ s.at (ahead s) (lengths_told c.right-lengths.ensures c.clear.auto.table c.clear-2.auto.table c.clear-3.auto.table c.clear-4.auto.table ∙ c.if-not-right-lengths.true) in
+    let no = unfitting _ s.at (ahead s) (lengths_told c.right_lengths.ensures c.clear.auto.table c.clear-2.auto.table c.clear-3.auto.table c.clear-4.auto.table ∙ c.if-not-right_lengths.true) in
     record {
-      answer = ap refused c.without-text.ensures ∙ ap load_head no;
+      answer = ap refused c.without_text.ensures ∙ ap load_head no;
       rows = ap places c.clear.ensures ∙ places_blank n ∙ ap (load_places n) no;
       hours = c.clear-2.ensures;
       marks = c.clear-3.ensures;
@@ -27,27 +27,27 @@ returns-then-not-right-lengths g c =
       text = λ l p bs d q cs e. loads_its_text l p bs d q cs e;
     }
 
-pub read-day-requires : goal.read-day-requires
-read-day-requires g c =
+pub read_day-requires : goal.read_day-requires
+read_day-requires g c =
     let n = length c.args.rows.now in
-    let whole : n ≡ 256 = rows_256 n (length c.args.hours.now) (length c.args.marks.now) (length c.args.posts.now) (lengths_told c.right-lengths.ensures c.clear.auto.table c.clear-2.auto.table c.clear-3.auto.table c.clear-4.auto.table ∙ c.if-not-right-lengths.false) in
+    let whole : n ≡ 256 = rows_256 n (length c.args.hours.now) (length c.args.marks.now) (length c.args.posts.now) (lengths_told c.right_lengths.ensures c.clear.auto.table c.clear-2.auto.table c.clear-3.auto.table c.clear-4.auto.table ∙ c.if-not-right_lengths.false) in
     record { whole = c.clear.auto.table ∙ whole; empty = places_empty c.clear.new.table n c.clear.ensures whole }
 
 pub returns-in-Ok : goal.returns-in-Ok
 returns-in-Ok g c =
     let n = length c.args.rows.now in
     let s = c.args.reader.now in
-    let t = c.read-day.new.reader in
+    let t = c.read_day.new.reader in
     let o = c.in-Ok.opening in
-    let yes = fitting _ s.at (ahead s) (lengths_told c.right-lengths.ensures c.clear.auto.table c.clear-2.auto.table c.clear-3.auto.table c.clear-4.auto.table ∙ c.if-not-right-lengths.false) in
-    let read = day_read n s.at (ahead s) (tick_values o.references) (sets_of o.blocks) (places c.read-day.new.rows) o.given t.at (ahead t) c.in-Ok.ensures.told in
+    let yes = fitting _ s.at (ahead s) (lengths_told c.right_lengths.ensures c.clear.auto.table c.clear-2.auto.table c.clear-3.auto.table c.clear-4.auto.table ∙ c.if-not-right_lengths.false) in
+    let read = day_read n s.at (ahead s) (tick_values o.references) (sets_of o.blocks) (places c.read_day.new.rows) o.given t.at (ahead t) c.in-Ok.ensures.told in
     record {
       answer = read.0 ∙ ap load_head yes;
       rows = read.1 ∙ ap (load_places n) yes;
       hours = c.clear-2.ensures;
       marks = c.clear-3.ensures;
       posts = c.clear-4.ensures;
-      input = c.read-day.ensures.input;
+      input = c.read_day.ensures.input;
       stays = tt;
       faithful = faithful_day;
       text = λ l p bs d q cs e. loads_its_text l p bs d q cs e;
@@ -57,15 +57,15 @@ pub returns-in-Err : goal.returns-in-Err
 returns-in-Err g c =
     let n = length c.args.rows.now in
     let s = c.args.reader.now in
-    let yes = fitting _ s.at (ahead s) (lengths_told c.right-lengths.ensures c.clear.auto.table c.clear-2.auto.table c.clear-3.auto.table c.clear-4.auto.table ∙ c.if-not-right-lengths.false) in
+    let yes = fitting _ s.at (ahead s) (lengths_told c.right_lengths.ensures c.clear.auto.table c.clear-2.auto.table c.clear-3.auto.table c.clear-4.auto.table ∙ c.if-not-right_lengths.false) in
     let no = day_refused n s.at (ahead s) c.in-Err.fault c.in-Err.ensures.told in
     record {
       answer = no.0 ∙ ap load_head yes;
-      rows = ap places c.undo.ensures.rows ∙ places_blank _ ∙ ap (λ k. replicate k vacant) (c.read-day.auto.rows ∙ c.clear.auto.table) ∙ no.1 ∙ ap (load_places n) yes;
+      rows = ap places c.undo.ensures.rows ∙ places_blank _ ∙ ap (λ k. replicate k vacant) (c.read_day.auto.rows ∙ c.clear.auto.table) ∙ no.1 ∙ ap (load_places n) yes;
       hours = c.clear-2.ensures;
       marks = c.clear-3.ensures;
       posts = c.clear-4.ensures;
-      input = c.undo.ensures.input ∙ c.read-day.ensures.input;
+      input = c.undo.ensures.input ∙ c.read_day.ensures.input;
       stays = c.undo.ensures.at;
       faithful = faithful_day;
       text = λ l p bs d q cs e. loads_its_text l p bs d q cs e;

@@ -9,8 +9,8 @@ returns-in-Err c =
     let ps = places c.args.rows.now in
     record {
       rule = (
-        own_denied c.args.blocks ps c.args.given c.args.draft.now c.requires.few c.in-Err.why c.in-Err.ensures ∙ ap (λ f. denied f.refusal) (sym c.at-line.ensures),
-        ap (λ f. f.line) c.at-line.ensures,
+        own_denied c.args.blocks ps c.args.given c.args.draft.now c.requires.few c.in-Err.why c.in-Err.ensures ∙ ap (λ f. denied f.refusal) (sym c.at_line.ensures),
+        ap (λ f. f.line) c.at_line.ensures,
       );
       leaves = tt;
     }
@@ -34,8 +34,8 @@ returns-in-Err-enter c =
     let x = ticket_of c.in-Ok.ticket in
     record {
       rule = (
-        table_denied c.args.blocks ps c.args.given d c.requires.few x c.in-Ok.ensures (length rows) c.requires.whole c.in-Err-enter.why c.in-Err-enter.ensures.gives ∙ ap (λ f. denied f.refusal) (sym c.at-line-in-Err-enter.ensures),
-        ap (λ f. f.line) c.at-line-in-Err-enter.ensures,
+        table_denied c.args.blocks ps c.args.given d c.requires.few x c.in-Ok.ensures (length rows) c.requires.whole c.in-Err-enter.why c.in-Err-enter.ensures.gives ∙ ap (λ f. denied f.refusal) (sym c.at_line-in-Err-enter.ensures),
+        ap (λ f. f.line) c.at_line-in-Err-enter.ensures,
       );
       leaves = tt;
     }

@@ -11,35 +11,35 @@ use Rattle.dayfile.specs.Lines.{order_text}
 use Rattle.dayfile.specs.Loading.{book_of}
 use Rattle.dayfile.proofs.orders.read_lines.Goals as goal
 
-pub returns-in-err-draft : goal.returns-in-err-draft
-returns-in-err-draft c =
+pub returns-in_err-draft : goal.returns-in_err-draft
+returns-in_err-draft c =
     let n = c.args.n in
     let k = c.args.blocks in
     let i = c.loop-given.given in
     let b = book_of (places c.loop-given.rows) i in
     let s = c.loop-given.reader in
     let m : n - i ≡ suc (n - (i + 1)) = omega (arith, c.loop-given-test.true) in
-    let no = checked_no (line_rule k b) order_text s.at s _ c.in-err-draft.ensures.told in
+    let no = checked_no (line_rule k b) order_text s.at s _ c.in_err-draft.ensures.told in
     record {
-      told = filled_err c.from-residual.result c.in-err-draft.field-0.0 (book_of (places c.loop-given.rows) n) c.read-order.new.reader c.from-residual.ensures.1 ∙ sym (ap (leaving booked b) (staged_no (order_line k) booked b 0 (n - i) s (n - (i + 1)) m _ no)) ∙ c.loop-given.invariant.0;
-      input = c.read-order.ensures.input ∙ c.loop-given.invariant.1;
+      told = filled_err c.from_residual.result c.in_err-draft.field-0.0 (book_of (places c.loop-given.rows) n) c.read_order.new.reader c.from_residual.ensures.1 ∙ sym (ap (leaving booked b) (staged_no (order_line k) booked b 0 (n - i) s (n - (i + 1)) m _ no)) ∙ c.loop-given.invariant.0;
+      input = c.read_order.ensures.input ∙ c.loop-given.invariant.1;
     }
 
-pub returns-in-err-enter-order : goal.returns-in-err-enter-order
-returns-in-err-enter-order c =
+pub returns-in_err-enter_order : goal.returns-in_err-enter_order
+returns-in_err-enter_order c =
     let n = c.args.n in
     let k = c.args.blocks in
     let i = c.loop-given.given in
     let b = book_of (places c.loop-given.rows) i in
     let s = c.loop-given.reader in
-    let t = c.read-order.new.reader in
+    let t = c.read_order.new.reader in
     let m : n - i ≡ suc (n - (i + 1)) = omega (arith, c.loop-given-test.true) in
-    let f = c.in-err-enter-order.field-0.0 in
-    let rule = c.in-err-enter-order.ensures.rule in
-    let no = checked_denied (line_rule k b) order_text s.at s t (asked_of c.in-ok-draft.draft) c.in-ok-draft.ensures.told f rule.0 rule.1 in
+    let f = c.in_err-enter_order.field-0.0 in
+    let rule = c.in_err-enter_order.ensures.rule in
+    let no = checked_denied (line_rule k b) order_text s.at s t (asked_of c.in_ok-draft.draft) c.in_ok-draft.ensures.told f rule.0 rule.1 in
     record {
-      told = filled_err c.from-residual-in-err-enter-order.result f (book_of (places c.enter-order.new.rows) n) t c.from-residual-in-err-enter-order.ensures.1 ∙ sym (ap (leaving booked b) (staged_no (order_line k) booked b 0 (n - i) s (n - (i + 1)) m f no)) ∙ c.loop-given.invariant.0;
-      input = c.read-order.ensures.input ∙ c.loop-given.invariant.1;
+      told = filled_err c.from_residual-in_err-enter_order.result f (book_of (places c.enter_order.new.rows) n) t c.from_residual-in_err-enter_order.ensures.1 ∙ sym (ap (leaving booked b) (staged_no (order_line k) booked b 0 (n - i) s (n - (i + 1)) m f no)) ∙ c.loop-given.invariant.0;
+      input = c.read_order.ensures.input ∙ c.loop-given.invariant.1;
     }
 
 pub loop-given-preserved : goal.loop-given-preserved
@@ -49,13 +49,13 @@ loop-given-preserved c =
     let i = c.loop-given.given in
     let b = book_of (places c.loop-given.rows) i in
     let s = c.loop-given.reader in
-    let t = c.read-order.new.reader in
-    let a = asked_of c.in-ok-draft.draft in
+    let t = c.read_order.new.reader in
+    let a = asked_of c.in_ok-draft.draft in
     let m : n - i ≡ suc (n - (i + 1)) = omega (arith, c.loop-given-test.true) in
-    let done = c.in-ok-enter-order.ensures in
-    let yes = checked_granted (line_rule k b) order_text s.at s t a c.in-ok-draft.ensures.told done.rule in (
+    let done = c.in_ok-enter_order.ensures in
+    let yes = checked_granted (line_rule k b) order_text s.at s t a c.in_ok-draft.ensures.told done.rule in (
       ap (λ ps. leaving booked (book_of ps (i + 1)) (staged_read (order_line k) booked (book_of ps (i + 1)) (n - (i + 1)) 0 t.at (ahead t))) done.leaves ∙ sym (lines_on (order_line k) booked b 0 (n - i) s (n - (i + 1)) m t a yes) ∙ c.loop-given.invariant.0,
-      c.read-order.ensures.input ∙ c.loop-given.invariant.1,
+      c.read_order.ensures.input ∙ c.loop-given.invariant.1,
     )
 
 pub returns : goal.returns

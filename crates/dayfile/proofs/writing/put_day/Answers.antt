@@ -19,6 +19,6 @@ returns c =
     let t = table_text (sequence (places rows)) in
     record {
       wrote = put_same (h ++ (b ++ t)) (day_text.text d) (sym (day_text_is d))
-          (put_on h (b ++ t) c.put-references-blocks.ensures (put_on b t c.put-blocks-table.ensures c.put-table.ensures));
+          (put_on h (b ++ t) c.put_references-blocks.ensures (put_on b t c.put_blocks-table.ensures c.put_table.ensures));
       hours = search rules;
     }

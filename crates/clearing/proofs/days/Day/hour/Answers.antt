@@ -9,9 +9,9 @@ use Rattle.clearing.proofs.days.Day.hour.Goals as goal
 pub unwrap-answer-requires : goal.unwrap-answer-requires
 unwrap-answer-requires c =
     let day = c.args.self.now in
-    let ref = c.reference-at-reference.ensures in
+    let ref = c.reference_at-reference.ensures in
     let loads = c.loads-bought.ensures in
-    ap is_ok (hour_granted day.rows.now day.blocks.now c.args.standing.now c.args.hour c.loads-bought.result.0 c.loads-bought.result.1 c.reference-at-reference.result day.few day.placed day.small c.requires.1 loads.bought loads.sold ref.low ref.high c.price-hour.result c.price-hour.ensures)
+    ap is_ok (hour_granted day.rows.now day.blocks.now c.args.standing.now c.args.hour c.loads-bought.result.0 c.loads-bought.result.1 c.reference_at-reference.result day.few day.placed day.small c.requires.1 loads.bought loads.sold ref.low ref.high c.price_hour.result c.price_hour.ensures)
 
 pub publish-requires : goal.publish-requires
 publish-requires c =
@@ -19,11 +19,11 @@ publish-requires c =
     let rows = day.rows.now in
     let bl = c.loads-bought.result.0 in
     let sl = c.loads-bought.result.1 in
-    let r = c.reference-at-reference.result in
-    let ref = c.reference-at-reference.ensures in
+    let r = c.reference_at-reference.result in
+    let ref = c.reference_at-reference.ensures in
     let loads = c.loads-bought.ensures in
     let x : ℕ × ℕ × ℕ = c.unwrap-answer.result in
-    let is : ◌≡◌ {A = Result (ℕ × ℕ × ℕ) Fault} (Ok x) (Ok (triple (buying rows (c.args.hour + 1) bl sl r) (selling rows (c.args.hour + 1) bl sl r) r)) = sym c.unwrap-answer.ensures ∙ hour_granted rows day.blocks.now c.args.standing.now c.args.hour bl sl r day.few day.placed day.small c.requires.1 loads.bought loads.sold ref.low ref.high c.price-hour.result c.price-hour.ensures in
+    let is : ◌≡◌ {A = Result (ℕ × ℕ × ℕ) Fault} (Ok x) (Ok (triple (buying rows (c.args.hour + 1) bl sl r) (selling rows (c.args.hour + 1) bl sl r) r)) = sym c.unwrap-answer.ensures ∙ hour_granted rows day.blocks.now c.args.standing.now c.args.hour bl sl r day.few day.placed day.small c.requires.1 loads.bought loads.sold ref.low ref.high c.price_hour.result c.price_hour.ensures in
     let same : x ≡ triple (buying rows (c.args.hour + 1) bl sl r) (selling rows (c.args.hour + 1) bl sl r) r = cc in
     let price = ap (λ (y : ℕ × ℕ × ℕ). y.0) same in
     let s = hour_settled rows day.blocks.now c.args.standing.now c.args.hour bl sl r day.few day.placed day.small c.requires.1 loads.bought loads.sold ref.low ref.high in
@@ -35,9 +35,9 @@ returns c =
     let rows = day.rows.now in
     let bl = c.loads-bought.result.0 in
     let sl = c.loads-bought.result.1 in
-    let r = c.reference-at-reference.result in
-    let ref = c.reference-at-reference.ensures in
+    let r = c.reference_at-reference.result in
+    let ref = c.reference_at-reference.ensures in
     let loads = c.loads-bought.ensures in
-    let is = sym c.unwrap-answer.ensures ∙ hour_granted rows day.blocks.now c.args.standing.now c.args.hour bl sl r day.few day.placed day.small c.requires.1 loads.bought loads.sold ref.low ref.high c.price-hour.result c.price-hour.ensures in
+    let is = sym c.unwrap-answer.ensures ∙ hour_granted rows day.blocks.now c.args.standing.now c.args.hour bl sl r day.few day.placed day.small c.requires.1 loads.bought loads.sold ref.low ref.high c.price_hour.result c.price_hour.ensures in
     c.publish.ensures ∙ hour_result (places rows) (c.args.hour + 1) bl sl r c.unwrap-answer.result is
     ∙ hour_of_day (places rows) day.blocks.now (ticks day.references.now) c.args.standing.now c.args.hour bl sl r loads.bought loads.sold ref.is
