@@ -1,5 +1,5 @@
 -- What sharing a volume out among three kinds of claims comes to, each kind served before the next.
-use Rattle.std.specs.Prelude.{◌≡◌, ℕ, ◌+◌, ◌-◌, ◌≤◌, ◌⊎◌, List, ◌++◌, map, sum_by, sum}
+use Rattle.std.specs.Prelude.{◌≡◌, ℕ, ◌+◌, ◌-◌, ◌≤◌, List, ◌++◌, map, sum_by, sum}
 use Rattle.allocation.specs.Joint.{Kind, and_then, joint}
 use Rattle.allocation.specs.Shares.{shares_of, Distinct, Shared}
 

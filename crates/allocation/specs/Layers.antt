@@ -1,6 +1,6 @@
 -- A ranking by a larger key first over any ranking is a ranking; so is the one by lower stamp.
 use Rattle.std.specs.Prelude.{◌≡◌, ℕ, Bool, true, false, not, Some, None, Option, ◌≢◌, nat_lt, refl}
-use Rattle.std.proofs.Common.{sym, ap, arith}
+use Rattle.std.proofs.Common.{sym, arith}
 use Rattle.std.proofs.lemmas.Bool.Decides.{nat_tests}
 use Rattle.allocation.specs.Rankings.{RankLaws, larger_first}
 use Rattle.allocation.specs.Places.{place_number, place_before}

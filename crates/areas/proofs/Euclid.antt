@@ -1,6 +1,6 @@
 -- The sum of quotients along a slope, by steps as in Euclid's algorithm.
-use Rattle.std.proofs.Common.{◌≡◌, ℕ, zero, suc, ◌+◌, ◌-◌, ◌*◌, ◌/◌, ◌%◌, ◌<◌, ◌≤◌, ◌⊎◌, sym, refl, ap, ◌∙◌, subst, inl, inr, mul_comm, mul-le-mul_left, div-le_self, mul-div_cancel, arith}
-use native.Mathlib.Nat.{add-mul-div_right, add-div_right, div-eq_of_lt, div-add-mod}
+use Rattle.std.proofs.Common.{◌≡◌, ℕ, zero, suc, ◌+◌, ◌-◌, ◌*◌, ◌/◌, ◌%◌, ◌<◌, ◌≤◌, sym, refl, ap, ◌∙◌, inl, inr, div-le_self, mul-div_cancel, arith}
+use native.Mathlib.Nat.{add-mul-div_right, add-div_right, div-eq_of_lt}
 use Rattle.std.proofs.lemmas.Nat.{mul-le, div-mul-add, div-add-mod', mod_below, div_below}
 use Rattle.std.proofs.lemmas.Bool.{cases_lt}
 use Rattle.areas.specs.Slope.{slope_sum, triangle}

@@ -1,6 +1,6 @@
 -- The view of a table: a row read, a row written, and the count of blocks.
-use Rattle.std.proofs.Common.{◌≡◌, ℕ, zero, suc, ◌+◌, ◌<◌, ◌≤◌, cond, List, [], ◌∷◌, ◌++◌, length, get_or, take, drop, set, replicate, sym, refl, ap, ◌∙◌, arith}
-use Rattle.std.proofs.lemmas.List.{at_drop_more, at_drop_all, length-map, map-set, get_or-map, get_or_past, take-map, drop-map, take_more_set, replicate_more}
+use Rattle.std.proofs.Common.{◌≡◌, ℕ, zero, suc, ◌+◌, ◌<◌, ◌≤◌, cond, List, ◌∷◌, length, get_or, take, drop, set, replicate, sym, refl, ap, ◌∙◌, arith}
+use Rattle.std.proofs.lemmas.List.{at_drop_more, at_drop_all, length-map, map-set, get_or-map, get_or_past, take-map, drop-map}
 use Rattle.book.specs.declared.rows.Row.{Row}
 use Rattle.book.specs.declared.rows.Row.TheVariants.{Empty}
 use Rattle.book.specs.Bids.{Place, vacant}

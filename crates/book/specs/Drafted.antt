@@ -1,5 +1,5 @@
 -- What a draft asks for, and its first refusal.
-use Rattle.std.specs.Prelude.{ℕ, Bool, true, false, cond, List, take, Err, Result, nat_lt}
+use Rattle.std.specs.Prelude.{ℕ, Bool, false, cond, List, take, Err, Result, nat_lt}
 use Rattle.faults.specs.declared.fault.Fault.{Fault}
 use Rattle.faults.specs.Answers.{out_of_range}
 use Rattle.curves.specs.Points.{Point}

@@ -1,5 +1,5 @@
 -- The block products of a day: a list of hour sets, of which block 1 has the first.
-use Rattle.std.specs.Prelude.{ℕ, Bool, true, false, cond, not, ◌&&◌, ◌||◌, List, [], ◌∷◌, ◌++◌, length, Some, None, Option, nat_le, nat_lt, slice_index}
+use Rattle.std.specs.Prelude.{ℕ, Bool, true, cond, not, ◌&&◌, ◌||◌, List, [], ◌∷◌, ◌++◌, length, Some, None, Option, nat_le, nat_lt, slice_index}
 use Rattle.faults.specs.declared.fault.Refusal.TheVariants.{OutOfRange}
 use Rattle.curves.specs.Ranges.{outside}
 use Rattle.book.specs.Conditions.{Condition, when}

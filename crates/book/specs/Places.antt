@@ -1,6 +1,6 @@
 -- Questions on the places of the order table.
 use Rattle.std.specs.Prelude.{ℕ, ◌+◌, Bool, true, false, cond, List, [], ◌∷◌, take, drop, ◌==◌, slice_index_or}
-use Rattle.book.specs.Bids.{Bid, Place, vacant, held}
+use Rattle.book.specs.Bids.{Place, vacant, held}
 use Rattle.book.specs.Verdicts.{is_block}
 
 -- the place of a row, vacant beyond the end

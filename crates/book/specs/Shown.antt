@@ -7,7 +7,7 @@ use Rattle.curves.specs.declared.sides.Side.TheVariants.{Buy, Sell}
 use Rattle.curves.specs.Ranges.{outside}
 use Rattle.curves.specs.Offers.{offer_shows}
 use Rattle.curves.specs.Loads.{loaded_answer}
-use Rattle.book.specs.Bids.{Bid, Place, vacant, held}
+use Rattle.book.specs.Bids.{Place, vacant, held}
 
 abbrev pub same_side : Side → Side → Bool
 same_side Buy Buy = true

@@ -1,5 +1,5 @@
 -- After a clearing: the shares of an hour add up, standing blocks are whole, and a row has a share on its own side alone.
-use Rattle.std.proofs.Common.{◌≡◌, ℕ, ◌+◌, ◌-◌, ◌<◌, ◌≤◌, min, max, Bool, true, false, cond, ◌&&◌, eqb, ltb, leb, ◌⊎◌, List, map, length, get_or, Some, None, sum_by, sum, Option, sym, refl, ap, ◌∙◌, subst, inl, inr, arith}
+use Rattle.std.proofs.Common.{◌≡◌, ℕ, ◌+◌, ◌-◌, ◌<◌, ◌≤◌, min, max, Bool, true, false, cond, ◌&&◌, eqb, ltb, List, map, length, get_or, Some, None, sum_by, sum, Option, sym, refl, ap, ◌∙◌, subst, inl, inr, arith}
 use Rattle.std.specs.List.{ContainsAt as Has}
 use Rattle.std.proofs.lemmas.List.{length-map, get_or-map}
 use Rattle.std.proofs.ByRecursion.{has_get_or}
@@ -26,12 +26,12 @@ use Rattle.clearing.specs.declared.results.HourResult.{HourResult}
 use Rattle.clearing.specs.Results.{no_result, result_at}
 use Rattle.clearing.specs.Hours.{day_hours, in_hour}
 use Rattle.clearing.specs.Verdicts.{claim_of, cause_of, verdict_of, loss, short, short_in, load_of}
-use Rattle.clearing.specs.Rounds.{Outcome, round_verdict, rounds_of, blocks_before, stood, stood_in, Settled}
+use Rattle.clearing.specs.Rounds.{Outcome, round_verdict, rounds_of, blocks_before, stood_in, Settled}
 use Rattle.clearing.specs.Blocks.{block_terms, block_with, block_in, block_of, blocks_of}
-use Rattle.clearing.specs.Clearing.{tabled, surplus_side, published_at, bought, sold, result_of, results_of, clearing_of}
+use Rattle.clearing.specs.Clearing.{surplus_side, bought, sold, result_of, results_of, clearing_of}
 use Rattle.clearing.specs.Fixing.{Stamped}
 use Rattle.clearing.specs.Claims.{HourClaim, place_kind, block_kind, market_kind, limit_kind, row_kind, is_kept, block_claim, market_bid, limit_bid, bids_in, market_of, limit_of, claim_out, row_claim, row_claims}
-use Rattle.clearing.specs.Sharing.{largest, shared_out, side_shares, shares_on, hour_shares, FromClearing, HourShared}
+use Rattle.clearing.specs.Sharing.{shared_out, shares_on, hour_shares, FromClearing, HourShared}
 use Rattle.clearing.proofs.Uptos.{any_from}
 use Rattle.clearing.proofs.Settling.{ranking, blocks_settled, get_d_stood}
 use Rattle.clearing.proofs.Tabled.{tabled_at, tabled_length}

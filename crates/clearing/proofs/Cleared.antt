@@ -1,5 +1,5 @@
 -- What clearing a day comes to: its blocks and its hours.
-use Rattle.std.proofs.Common.{◌≡◌, ℕ, zero, suc, ◌+◌, ◌-◌, ◌<◌, ◌≤◌, Bool, true, false, cond, not, ltb, List, [], ◌∷◌, map, length, get_or, is_some, Some, None, count_by, Option, sym, refl, ap, ◌∙◌, subst, arith}
+use Rattle.std.proofs.Common.{◌≡◌, ℕ, zero, suc, ◌+◌, ◌<◌, ◌≤◌, Bool, true, false, cond, not, ltb, List, [], ◌∷◌, map, length, get_or, is_some, Some, None, count_by, Option, sym, refl, ap, ◌∙◌, subst, arith}
 use Rattle.std.proofs.lemmas.List.Sums.{sum_by-cons}
 use Rattle.std.proofs.lemmas.List.{length-map, get_or-map}
 use Rattle.curves.specs.declared.sides.Side.TheVariants.{Buy, Sell}
@@ -14,16 +14,15 @@ use Rattle.allocation.specs.declared.block.BlockClaim.{BlockClaim}
 use Rattle.clearing.specs.declared.blocks.Block.{Block}
 use Rattle.clearing.specs.declared.marks.Cause.{Cause}
 use Rattle.clearing.specs.declared.marks.Mark.{Mark}
-use Rattle.clearing.specs.declared.marks.Mark.TheVariants.{Kept, Dropped}
 use Rattle.clearing.specs.declared.results.HourResult.{HourResult}
 use Rattle.clearing.specs.Hours.{day_hours}
 use Rattle.clearing.specs.Results.{no_result, result_at}
 use Rattle.clearing.specs.Verdicts.{load_of}
-use Rattle.clearing.specs.Rounds.{Outcome, outcome, claimed, claim_at, blocks_before, round_verdict, rounds_of, stood, Settled}
-use Rattle.clearing.specs.Blocks.{block_terms, block_with, block_in, block_of, blocks_of, small_blocks}
+use Rattle.clearing.specs.Rounds.{outcome, claimed, claim_at, blocks_before, round_verdict, rounds_of, stood, Settled}
+use Rattle.clearing.specs.Blocks.{block_terms, block_with, block_in, block_of, blocks_of}
 use Rattle.clearing.specs.Clearing.{ticks, surplus_side, bought, sold, result_of, results_of, clearing, settled_at, clearing_of}
-use Rattle.clearing.specs.Fixing.{Stamped, failure, BlocksCleared, HourPriced, HoursPriced}
-use Rattle.clearing.proofs.Settling.{ranking, row_fails, blocks_settled, running_settled, few_rounds}
+use Rattle.clearing.specs.Fixing.{BlocksCleared, HoursPriced}
+use Rattle.clearing.proofs.Settling.{ranking, row_fails, running_settled, few_rounds}
 use Rattle.clearing.proofs.Tabled.{tabled_at}
 use Rattle.clearing.proofs.Collected.{blocks_small}
 use Rattle.clearing.proofs.Plain.{load_few, settled}

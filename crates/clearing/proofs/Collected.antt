@@ -1,15 +1,14 @@
 -- The block orders collected from the rows: a block of a row, and its volume.
-use Rattle.std.proofs.Common.{◌≡◌, ℕ, zero, suc, ◌+◌, ◌-◌, ◌<◌, ◌≤◌, Bool, true, false, cond, ltb, leb, List, [], ◌∷◌, map, length, get_or, take, Some, None, Option, sym, refl, ap, ◌∙◌, arith}
+use Rattle.std.proofs.Common.{◌≡◌, ℕ, zero, suc, ◌-◌, ◌≤◌, Bool, true, false, cond, ltb, leb, List, [], ◌∷◌, length, get_or, take, Some, None, Option, refl, ap, ◌∙◌, arith}
 use Rattle.std.proofs.lemmas.Bool.{le-leb, leb-true, and_from, and_parts}
 use Rattle.curves.specs.declared.pairs.Pair.{Pair}
 use Rattle.curves.specs.declared.orders.Order.{Order}
 use Rattle.curves.specs.declared.orders.Order.TheVariants.{Market, Step, Linear}
-use Rattle.curves.specs.Offers.{Form}
 use Rattle.curves.specs.Orders.{offer_of}
-use Rattle.curves.specs.Views.{point, points}
+use Rattle.curves.specs.Views.{points}
 use Rattle.book.specs.declared.rows.Row.{Row}
 use Rattle.book.specs.declared.rows.Row.TheVariants.{Empty, Held}
-use Rattle.book.specs.Bids.{Bid, Place, vacant, held}
+use Rattle.book.specs.Bids.{Bid}
 use Rattle.book.specs.HourSets.{hours_at}
 use Rattle.book.specs.Views.{entry_of, place_of, places}
 use Rattle.allocation.specs.Places.{place_number}

@@ -1,17 +1,16 @@
 -- The worked figure of a block order: each price by the two ends of the range without excess.
-use Rattle.std.proofs.Common.{◌≡◌, ℕ, ◌+◌, ◌*◌, ◌<◌, ◌≤◌, Bool, true, false, cond, ltb, List, [], ◌∷◌, replicate, Some, None, Option, sym, refl, ap, ◌∙◌, arith}
+use Rattle.std.proofs.Common.{◌≡◌, ℕ, ◌+◌, ◌*◌, ◌<◌, ◌≤◌, Bool, true, false, cond, List, [], ◌∷◌, replicate, Some, None, Option, sym, refl, ap, ◌∙◌, arith}
 use Rattle.std.proofs.lemmas.Bool.{lt-ltb, le-ltb}
 use Rattle.std.proofs.lemmas.Bool.Decides.{nat_tests}
-use Rattle.curves.specs.declared.sides.Side.TheVariants.{Buy, Sell}
+use Rattle.curves.specs.declared.sides.Side.TheVariants.{Buy}
 use Rattle.curves.specs.Steps.{last_below}
-use Rattle.curves.specs.Price.{price_of, nearest}
+use Rattle.curves.specs.Price.{price_of}
 use Rattle.curves.specs.Figures.{sells}
 use Rattle.curves.proofs.Rules.{Parted, price_even}
-use Rattle.book.specs.Bids.{Place}
 use Rattle.book.specs.Shown.{book_shows}
 use Rattle.clearing.specs.declared.blocks.Block.{Block}
 use Rattle.clearing.specs.declared.marks.Cause.{Cause}
-use Rattle.clearing.specs.declared.marks.Cause.TheVariants.{Loss, Shortage}
+use Rattle.clearing.specs.declared.marks.Cause.TheVariants.{Loss}
 use Rattle.clearing.specs.declared.marks.Mark.{Mark}
 use Rattle.clearing.specs.declared.marks.Mark.TheVariants.{Kept, Dropped}
 use Rattle.clearing.specs.declared.results.HourResult.{HourResult}
@@ -21,8 +20,8 @@ use Rattle.clearing.specs.Hours.{price_sum}
 use Rattle.clearing.specs.Verdicts.{cause_of, loss, short}
 use Rattle.clearing.specs.Rounds.{Outcome, outcome, lower_of, lowest_upto, blocks_before, round_verdict, next_drop, rounds_of}
 use Rattle.clearing.specs.Blocks.{blocks_of}
-use Rattle.clearing.specs.Clearing.{published_at, bought, sold, result_of, results_of, settled_at, clearing_of}
-use Rattle.clearing.specs.Figures.{figure, cleared, BlockFigure}
+use Rattle.clearing.specs.Clearing.{published_at, bought, sold, result_of, results_of, clearing_of}
+use Rattle.clearing.specs.Figures.{figure, BlockFigure}
 use Rattle.clearing.proofs.Settling.{rounds_stop, rounds_step}
 use Rattle.clearing.proofs.Tabled.{tabled_at}
 

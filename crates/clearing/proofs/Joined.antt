@@ -1,10 +1,9 @@
 -- Three kinds in one ranking of rows, each row with one claim at most: the shares are those of the kinds served in turn.
-use Rattle.std.proofs.Common.{◌≡◌, ℕ, ◌+◌, ◌-◌, ◌<◌, ◌≤◌, min, Bool, true, false, cond, ◌⊎◌, List, [], ◌∷◌, map, length, get_or, is_some, Some, None, sum_by, Option, sym, refl, ap, ◌∙◌, inl, inr, arith}
+use Rattle.std.proofs.Common.{◌≡◌, ℕ, ◌+◌, ◌-◌, ◌≤◌, Bool, cond, ◌⊎◌, List, [], ◌∷◌, map, is_some, Some, None, sum_by, Option, sym, refl, ap, ◌∙◌, inl, inr, arith}
 use mathlib.Core.Path.{fun_ext}
 use Rattle.std.proofs.lemmas.List.Sums.{sum_by-cons}
-use Rattle.std.proofs.lemmas.List.{length-map, get_or-map}
 use Rattle.allocation.specs.Joint.{Kind, and_then}
-use Rattle.allocation.specs.Shares.{ahead, share_of, shares_of}
+use Rattle.allocation.specs.Shares.{ahead, share_of}
 use Rattle.allocation.proofs.Summing.{sum_over}
 use Rattle.clearing.specs.Claims.{place_kind, claim_out}
 use Rattle.clearing.specs.Sharing.{largest}

@@ -1,5 +1,5 @@
 -- An hour in which the dropped block has no part need not be priced again.
-use Rattle.std.proofs.Common.{◌≡◌, ℕ, ◌+◌, Bool, true, false, cond, ◌&&◌, ◌⊎◌, List, length, get_or, set, Some, None, Option, sym, refl, ap, ◌∙◌, subst, inl, inr}
+use Rattle.std.proofs.Common.{◌≡◌, ℕ, ◌+◌, Bool, true, false, cond, ◌&&◌, List, length, get_or, set, Some, None, Option, sym, refl, ap, ◌∙◌, inl, inr}
 use mathlib.Core.Path.{fun_ext}
 use Rattle.std.proofs.lemmas.Bool.{cases_eq}
 use Rattle.std.proofs.lemmas.List.{get_or-set_other}
@@ -9,7 +9,6 @@ use Rattle.book.specs.Bids.{Place}
 use Rattle.book.specs.Shown.{same_side}
 use Rattle.clearing.specs.declared.blocks.Block.{Block}
 use Rattle.clearing.specs.Upto.{upto}
-use Rattle.clearing.specs.Hours.{in_hour}
 use Rattle.clearing.specs.Verdicts.{adds_of, adds, load_of}
 use Rattle.clearing.specs.Clearing.{result_of, has_hour}
 use Rattle.clearing.proofs.Plain.{with_loads}

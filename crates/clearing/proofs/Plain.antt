@@ -6,10 +6,10 @@ use Rattle.faults.specs.declared.fault.Fault.{Fault}
 use Rattle.faults.specs.Answers.{out_of_range, wrong_length}
 use Rattle.curves.specs.declared.sides.Side.{Side}
 use Rattle.curves.specs.declared.sides.Side.TheVariants.{Buy, Sell}
-use Rattle.curves.specs.Tables.{Turned, Falls, Rises}
+use Rattle.curves.specs.Tables.{Turned}
 use Rattle.curves.specs.Ranges.{bad_tick}
 use Rattle.curves.specs.Loads.{capped}
-use Rattle.curves.specs.Price.{price_of, executed, surplus, answer}
+use Rattle.curves.specs.Price.{price_of, executed, surplus}
 use Rattle.curves.proofs.Rules as rules
 use Rattle.book.specs.declared.rows.Row.{Row}
 use Rattle.book.specs.Shown.{same_side, book_shows, bad_hour, hour_answer}

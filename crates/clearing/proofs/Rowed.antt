@@ -1,11 +1,10 @@
 -- The claims of the rows: one to a row at most, what they ask for together, and their stamps.
-use Rattle.std.proofs.Common.{◌≡◌, ℕ, zero, suc, ◌+◌, ◌-◌, ◌<◌, ◌≤◌, Bool, true, false, cond, ◌&&◌, eqb, ltb, ◌⊎◌, List, [], ◌∷◌, map, length, get_or, take, is_some, Some, None, sum_by, Option, sym, refl, ap, ◌∙◌, inl, inr, arith}
+use Rattle.std.proofs.Common.{◌≡◌, ℕ, zero, suc, ◌+◌, ◌<◌, ◌≤◌, Bool, true, false, cond, ◌&&◌, ltb, List, [], ◌∷◌, map, length, get_or, take, is_some, Some, None, sum_by, Option, sym, refl, ap, ◌∙◌, arith}
 use Rattle.std.specs.List.{range_with_len}
 use Rattle.std.proofs.lemmas.List.Sums.{sum_by-cons, sum_by_more}
 use Rattle.std.proofs.lemmas.List.FromFn.{sum_by-map-range_with_len_more}
-use Rattle.std.proofs.lemmas.Bool.{cases_lt, lt-ltb, le-ltb, ne_eqb, ltb-true, and_parts}
-use Rattle.std.proofs.lemmas.List.{take_all, get_or-map}
-use Rattle.allocation.specs.declared.block.BlockClaim.{BlockClaim}
+use Rattle.std.proofs.lemmas.Bool.{ne_eqb, ltb-true}
+use Rattle.std.proofs.lemmas.List.{take_all}
 use Rattle.allocation.specs.declared.market.MarketClaim.{MarketClaim}
 use Rattle.allocation.specs.declared.limit.LimitClaim.{LimitClaim}
 use Rattle.curves.specs.declared.sides.Side.{Side}
@@ -21,9 +20,9 @@ use Rattle.clearing.specs.Hours.{in_hour}
 use Rattle.clearing.specs.Verdicts.{claim_of, adds_of, adds, load_of}
 use Rattle.clearing.specs.Blocks.{block_in, block_of, blocks_of}
 use Rattle.clearing.specs.Clearing.{tabled}
-use Rattle.clearing.specs.Claims.{place_kind, block_kind, market_kind, limit_kind, row_kind, is_kept, block_claim, market_bid, limit_bid, bids_in, market_of, limit_of, claim_out, row_claim, row_claims}
+use Rattle.clearing.specs.Claims.{place_kind, block_kind, market_kind, limit_kind, row_kind, is_kept, block_claim, market_bid, limit_bid, bids_in, market_of, limit_of, row_claim, row_claims}
 use Rattle.clearing.proofs.Joined.{AtMostOne, asks_out}
-use Rattle.clearing.proofs.Cleared.{block_stamp, blocks_at, blocks_length}
+use Rattle.clearing.proofs.Cleared.{blocks_at, blocks_length}
 
 -- one claim at most
 

@@ -1,5 +1,5 @@
 -- What the rounds come to.
-use Rattle.std.proofs.Common.{◌≡◌, ℕ, zero, suc, ◌+◌, ◌-◌, ◌<◌, ◌≤◌, Bool, true, false, cond, leb, ◌⊎◌, List, [], ◌∷◌, map, length, get_or, set, replicate, is_some, Some, None, count_by, Option, sym, refl, ap, ◌∙◌, subst, inl, inr, arith}
+use Rattle.std.proofs.Common.{◌≡◌, ℕ, zero, suc, ◌+◌, ◌<◌, ◌≤◌, Bool, true, false, cond, leb, ◌⊎◌, List, [], ◌∷◌, length, get_or, set, replicate, is_some, Some, None, count_by, Option, sym, refl, ap, ◌∙◌, subst, inl, inr, arith}
 use Rattle.std.proofs.lemmas.Bool.{cases_lt, cases_eq, le-leb, lt-leb, leb-true}
 use Rattle.std.proofs.lemmas.List.Sums.{get_or-le-sum_by, sum_by-set, sum_by-cons}
 use Rattle.std.proofs.lemmas.List.{length-replicate, length-set, length-map, get_or-map, map-set, set-get_or, get_or-set_same, get_or-set_other, ext_get_or}
@@ -7,14 +7,14 @@ use Rattle.clearing.specs.declared.marks.Cause.{Cause}
 use Rattle.clearing.specs.declared.marks.Mark.{Mark}
 use Rattle.clearing.specs.declared.marks.Mark.TheVariants.{Kept, Dropped}
 use Rattle.clearing.specs.declared.blocks.Block.{Block}
-use Rattle.clearing.specs.Verdicts.{cause_of, verdict_of, loss, short, verdict}
+use Rattle.clearing.specs.Verdicts.{verdict_of, loss, short, verdict}
 use Rattle.allocation.specs.Rankings.{RankLaws}
 use Rattle.allocation.specs.Places.{place_number, place_before}
 use Rattle.allocation.specs.Precedence.{block_before}
 use Rattle.allocation.specs.declared.block.BlockClaim.{BlockClaim}
 use Rattle.allocation.specs.Layers.{by_key, by_stamp, by_place}
 use Rattle.clearing.specs.declared.results.HourResult.{HourResult}
-use Rattle.clearing.specs.Rounds.{claim_at, blocks_before, next_drop, round_verdict, rounds_of, lower_of, lowest_upto, rounds_from, outcome, Outcome, stood, stood_in, is_dropped, Settled}
+use Rattle.clearing.specs.Rounds.{claim_at, blocks_before, next_drop, round_verdict, rounds_of, lower_of, lowest_upto, rounds_from, outcome, stood, stood_in, is_dropped, Settled}
 
 -- the lowest ranked of the failing ones below n
 abbrev pub Low : (ℕ → Option Cause) → (ℕ → ℕ → Bool) → ℕ → Option (ℕ × Cause) → Type 0

@@ -1,28 +1,27 @@
 -- The shares of an hour: the one rule over the rows is the kinds served in turn, and what it comes to after a clearing.
-use Rattle.std.proofs.Common.{◌≡◌, ℕ, ◌+◌, ◌-◌, ◌<◌, ◌≤◌, min, max, Bool, true, false, cond, ◌&&◌, ltb, ◌⊎◌, List, [], ◌∷◌, map, length, get_or, Some, None, sum_by, sum, Option, sym, refl, ap, ◌∙◌, subst, inl, inr, arith}
+use Rattle.std.proofs.Common.{◌≡◌, ℕ, ◌+◌, ◌-◌, ◌<◌, List, map, length, get_or, None, sum_by, Option, sym, refl, ap, ◌∙◌, arith}
 use Rattle.std.specs.List.{range_with_len}
 use Rattle.std.proofs.lemmas.List.{length-map, get_or-map}
 use Rattle.allocation.specs.declared.block.BlockClaim.{BlockClaim}
 use Rattle.allocation.specs.declared.market.MarketClaim.{MarketClaim}
 use Rattle.allocation.specs.declared.limit.LimitClaim.{LimitClaim}
 use Rattle.allocation.specs.Rankings.{RankLaws}
-use Rattle.allocation.specs.Shares.{share_of, shares_of, Distinct}
+use Rattle.allocation.specs.Shares.{share_of, shares_of}
 use Rattle.allocation.specs.Kinds.{SharedKind}
 use Rattle.allocation.specs.Layers.{by_key, by_stamp, by_place}
 use Rattle.allocation.proofs.Joining.{by_kind}
 use Rattle.allocation.proofs.Sharing.{shared}
 use Rattle.curves.specs.declared.sides.Side.{Side}
-use Rattle.book.specs.Bids.{Bid, Place, vacant, held}
+use Rattle.book.specs.Bids.{Place, vacant}
 use Rattle.book.specs.Places.{place_at}
-use Rattle.clearing.specs.declared.blocks.Block.{Block}
 use Rattle.clearing.specs.declared.marks.Mark.{Mark}
 use Rattle.clearing.specs.declared.marks.Mark.TheVariants.{Kept}
-use Rattle.clearing.specs.Blocks.{block_of, blocks_of}
+use Rattle.clearing.specs.Blocks.{blocks_of}
 use Rattle.clearing.specs.Clearing.{tabled}
-use Rattle.clearing.specs.Claims.{HourClaim, place_kind, block_kind, market_kind, limit_kind, row_kind, is_kept, block_claim, market_of, limit_of, claim_out, row_claim, row_claims}
+use Rattle.clearing.specs.Claims.{HourClaim, place_kind, block_kind, market_kind, limit_kind, row_kind, is_kept, block_claim, market_of, limit_of, row_claim, row_claims}
 use Rattle.clearing.specs.Sharing.{largest, largest_of, served_in_turn, side_shares}
 use Rattle.clearing.proofs.Tabled.{tabled_at, tabled_length, tabled_by, map_twice}
-use Rattle.clearing.proofs.Joined.{first_of, second_of, third_of, first_out, second_out, third_out, in_turn, row_share}
+use Rattle.clearing.proofs.Joined.{first_of, second_of, third_of, first_out, second_out, third_out, row_share}
 use Rattle.clearing.proofs.Rowed.{one_claim}
 use Rattle.clearing.proofs.Cleared.{blocks_at, blocks_length}
 

@@ -1,7 +1,7 @@
 -- The block orders among the places of the order table.
 use Rattle.std.specs.Prelude.{ℕ, ◌-◌, Bool, true, cond, ◌&&◌, List, [], ◌∷◌, map, Some, None, Option, nat_le, nat_lt}
 use Rattle.curves.specs.Points.{Point}
-use Rattle.curves.specs.Offers.{Form, flat, stairs, slopes, Offer}
+use Rattle.curves.specs.Offers.{Form, flat, stairs, slopes}
 use Rattle.book.specs.Bids.{Bid, Place, vacant, held}
 use Rattle.book.specs.HourSets.{hours_at}
 use Rattle.clearing.specs.declared.blocks.Block.{Block}

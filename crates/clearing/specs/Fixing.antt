@@ -1,9 +1,9 @@
 -- What the call that clears a day answers and leaves, and what holds of it.
-use Rattle.std.specs.Prelude.{◌≡◌, ℕ, ◌+◌, ◌<◌, ◌≤◌, Bool, true, false, cond, not, ◌&&◌, List, length, Some, None, Ok, Err, count_by, Option, Result, ◌==◌, ◌≢◌, slice_index, slice_index_or}
+use Rattle.std.specs.Prelude.{◌≡◌, ℕ, ◌+◌, ◌<◌, ◌≤◌, Bool, true, false, cond, ◌&&◌, List, length, Some, None, Ok, Err, count_by, Option, Result, ◌==◌, ◌≢◌, slice_index, slice_index_or}
 use Rattle.faults.specs.declared.fault.Fault.{Fault}
 use Rattle.faults.specs.Answers.{wrong_length}
 use Rattle.curves.specs.Price.{price_of, executed, surplus, Best}
-use Rattle.book.specs.Bids.{Bid, Place, vacant, held}
+use Rattle.book.specs.Bids.{Bid, Place, held}
 use Rattle.book.specs.Places.{place_at, blocks_held}
 use Rattle.clearing.specs.declared.marks.Cause.{Cause}
 use Rattle.clearing.specs.declared.marks.Mark.{Mark}

@@ -1,5 +1,5 @@
 -- The shares of an hour: what is shared out on each side, each row's share, and what holds of them.
-use Rattle.std.specs.Prelude.{◌≡◌, ℕ, ◌+◌, ◌-◌, ◌<◌, ◌≤◌, min, max, Bool, true, false, cond, ◌&&◌, List, map, length, Some, None, Ok, Err, sum_by, sum, Option, Result, ◌==◌, slice_index, slice_index_or}
+use Rattle.std.specs.Prelude.{◌≡◌, ℕ, ◌+◌, ◌-◌, ◌<◌, ◌≤◌, min, max, true, false, cond, ◌&&◌, List, map, length, Some, Ok, Err, sum_by, sum, Option, Result, ◌==◌, slice_index, slice_index_or}
 use Rattle.faults.specs.declared.fault.Fault.{Fault}
 use Rattle.faults.specs.Answers.{out_of_range, wrong_length}
 use Rattle.allocation.specs.declared.block.BlockClaim.{BlockClaim}

@@ -1,9 +1,9 @@
 -- The worked figures: each price by the two ends of the range without excess.
-use Rattle.std.proofs.Common.{◌≡◌, ℕ, ◌<◌, ◌≤◌, cond, leb, refl, ◌∙◌, arith}
+use Rattle.std.proofs.Common.{◌≡◌, ℕ, ◌≤◌, refl, ◌∙◌, arith}
 use Rattle.std.proofs.lemmas.Bool.Decides.{nat_tests}
 use Rattle.curves.specs.Lines.{nudge, rounded, inside}
 use Rattle.curves.specs.Steps.{last_below, first_above}
-use Rattle.curves.specs.Price.{nearest, prefer, better}
+use Rattle.curves.specs.Price.{nearest, better}
 use Rattle.curves.specs.Figures.{Figures, buys, sells}
 use Rattle.curves.proofs.Rules.{Parted, price_even, price_over_ladder, price_turn}
 

@@ -1,6 +1,6 @@
 -- What the searches over the ladder find.
-use Rattle.std.proofs.Common.{◌≡◌, ℕ, zero, suc, ◌+◌, ◌<◌, ◌≤◌, Bool, true, false, cond, not, eqb, ltb, leb, ◌⊎◌, sym, refl, ap, ◌∙◌, subst, inl, inr, arith}
-use Rattle.std.proofs.lemmas.Bool.{cases_lt, cases_Bool, cond-true, cond-false, both_ways}
+use Rattle.std.proofs.Common.{◌≡◌, ℕ, zero, suc, ◌+◌, ◌<◌, ◌≤◌, Bool, true, false, sym, refl, ◌∙◌, subst, inl, inr, arith}
+use Rattle.std.proofs.lemmas.Bool.{cases_lt, cases_Bool, cond-true, cond-false}
 use Rattle.curves.specs.Ladder.{least_from, highest_to, least_tick, highest_tick}
 
 least_from_is : (p : ℕ → Bool) (n t r : ℕ) → t ≤ r → r ≤ n + t → ((u : ℕ) → t ≤ u → u < r → p u ≡ false) → (r < n + t → p r ≡ true) → least_from p n t ≡ r

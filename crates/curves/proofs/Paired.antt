@@ -1,5 +1,5 @@
 -- The walk along the pairs that are asked for.
-use Rattle.std.proofs.Common.{◌≡◌, ℕ, zero, suc, ◌+◌, ◌-◌, ◌<◌, ◌≤◌, Bool, true, false, cond, ◌&&◌, ltb, leb, List, [], ◌∷◌, length, get_or, drop, Ok, Err, Result, sym, refl, ap, ◌∙◌, arith}
+use Rattle.std.proofs.Common.{◌≡◌, ℕ, zero, suc, ◌+◌, ◌-◌, ◌<◌, ◌≤◌, Bool, true, false, cond, ltb, leb, List, [], ◌∷◌, length, get_or, drop, Ok, Err, Result, sym, refl, ap, ◌∙◌, arith}
 use lib.ListN.{length-map}
 use Rattle.std.proofs.lemmas.List.{at_drop_more, at_drop_all, drop_more}
 use Rattle.std.proofs.lemmas.Bool.{and_from}
@@ -12,7 +12,7 @@ use Rattle.curves.specs.declared.sides.Side.{Side}
 use Rattle.curves.specs.declared.quotes.Quote.{Quote}
 use Rattle.curves.specs.Points.{Point}
 use Rattle.curves.specs.Ranges.{bad_count}
-use Rattle.curves.specs.Sequences.{turns, follows, ordered, bad_point, wild, paired, pairs_verdict}
+use Rattle.curves.specs.Sequences.{turns, ordered, bad_point, wild, paired, pairs_verdict}
 use Rattle.curves.specs.Views.{quoted, quotes}
 use Rattle.curves.specs.Chained.{Ranged}
 

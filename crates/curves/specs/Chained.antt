@@ -1,5 +1,5 @@
 -- The side and the plain pairs behind a chain.
-use Rattle.std.specs.Prelude.{ℕ, ◌≤◌, List, take}
+use Rattle.std.specs.Prelude.{◌≤◌, List, take}
 use Rattle.curves.specs.declared.sides.Side.{Side}
 use Rattle.curves.specs.declared.chains.Chain.{Chain}
 use Rattle.curves.specs.Points.{Point}

@@ -1,6 +1,6 @@
 -- The laws of a linear order.
-use Rattle.std.specs.Prelude.{◌≡◌, ℕ, zero, suc, ◌+◌, ◌-◌, ◌<◌, ◌≤◌, Bool, true, false, cond, ◌&&◌, ◌⊎◌, List, [], ◌∷◌, length, drop, nat_le, nat_lt, slice_index_or, refl}
-use Rattle.std.proofs.Common.{ap, sym, ◌∙◌, subst, inl, inr, arith}
+use Rattle.std.specs.Prelude.{◌≡◌, ℕ, zero, suc, ◌+◌, ◌-◌, ◌<◌, ◌≤◌, true, cond, ◌&&◌, ◌⊎◌, List, [], ◌∷◌, length, drop, nat_le, nat_lt, slice_index_or, refl}
+use Rattle.std.proofs.Common.{ap, sym, ◌∙◌, inl, inr, arith}
 use Rattle.std.proofs.lemmas.List.{drop_more}
 use Rattle.std.proofs.lemmas.Bool.{and_parts, and_from, and_left, and_right, ltb-true, lt-ltb, le-ltb, le-leb, lt-leb, cond-true, cond-false, cases_lt}
 use Rattle.curves.specs.declared.sides.Side.{Side}
@@ -8,7 +8,7 @@ use Rattle.curves.specs.declared.sides.Side.TheVariants.{Buy, Sell}
 use Rattle.curves.specs.declared.pairs.Pair.{Pair}
 use Rattle.curves.specs.Views.{point, points}
 use Rattle.curves.specs.Points.{Point}
-use Rattle.curves.specs.Tables.{Turned, Falls, Rises, Greatest}
+use Rattle.curves.specs.Tables.{Turned, Greatest}
 use Rattle.curves.specs.Steps.{last_below, first_above, open_end}
 use Rattle.curves.specs.Sequences.{turns, follows, ordered}
 use Rattle.curves.specs.Lines.{inside, straight, line_shows}

@@ -1,5 +1,5 @@
 -- What a linear order shows, from its pairs.
-use Rattle.std.specs.Prelude.{ℕ, ◌+◌, ◌-◌, ◌*◌, ◌/◌, Bool, cond, ◌&&◌, List, [], ◌∷◌, nat_lt}
+use Rattle.std.specs.Prelude.{ℕ, ◌+◌, ◌-◌, ◌*◌, ◌/◌, cond, ◌&&◌, List, [], ◌∷◌, nat_lt}
 use Rattle.curves.specs.declared.sides.Side.{Side}
 use Rattle.curves.specs.Points.{Point}
 use Rattle.curves.specs.Steps.{step_shows}

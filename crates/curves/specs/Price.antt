@@ -1,5 +1,5 @@
 -- The price of an hour, from the two tables and the reference value.
-use Rattle.std.specs.Prelude.{◌≡◌, ℕ, suc, ◌+◌, ◌-◌, ◌<◌, ◌≤◌, min, Bool, true, false, cond, ◌&&◌, Ok, Err, Result, ◌==◌, nat_lt}
+use Rattle.std.specs.Prelude.{◌≡◌, ℕ, ◌+◌, ◌-◌, ◌≤◌, min, Bool, true, false, cond, ◌&&◌, Ok, Err, Result, ◌==◌, nat_lt}
 use Rattle.curves.specs.declared.sides.Side.{Side}
 use Rattle.curves.specs.declared.sides.Side.TheVariants.{Buy, Sell}
 use Rattle.faults.specs.declared.fault.Fault.{Fault}

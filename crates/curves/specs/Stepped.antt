@@ -1,17 +1,17 @@
 -- The laws of a step order.
-use Rattle.std.specs.Prelude.{◌≡◌, ℕ, zero, suc, ◌+◌, ◌-◌, ◌<◌, ◌≤◌, Bool, true, false, cond, ◌&&◌, List, [], ◌∷◌, ◌++◌, length, drop, nat_le, nat_lt, slice_index_or, refl}
-use Rattle.std.proofs.Common.{ap, sym, ◌∙◌, subst, arith}
+use Rattle.std.specs.Prelude.{◌≡◌, ℕ, ◌+◌, ◌<◌, ◌≤◌, true, cond, List, [], ◌∷◌, length, drop, nat_le, nat_lt, slice_index_or, refl}
+use Rattle.std.proofs.Common.{ap, sym, ◌∙◌, arith}
 use Rattle.std.proofs.lemmas.List.{at_drop_more, at_drop_all}
-use Rattle.std.proofs.lemmas.Bool.{and_parts, and_from, leb-true, cond-true, cond-false, cases_Bool}
+use Rattle.std.proofs.lemmas.Bool.{and_parts, leb-true}
 use Rattle.std.proofs.lemmas.Bool.Decides.{nat_tests}
 use Rattle.curves.specs.declared.sides.Side.{Side}
 use Rattle.curves.specs.declared.sides.Side.TheVariants.{Buy, Sell}
 use Rattle.curves.specs.declared.pairs.Pair.{Pair}
 use Rattle.curves.specs.Points.{Point}
-use Rattle.curves.specs.Views.{point, points}
-use Rattle.curves.specs.Tables.{Turned, Falls, Rises, Greatest}
+use Rattle.curves.specs.Views.{points}
+use Rattle.curves.specs.Tables.{Turned, Greatest}
 use Rattle.curves.specs.Steps.{last_below, first_above, step_shows, open_end}
-use Rattle.curves.specs.Sequences.{turns, follows, ordered}
+use Rattle.curves.specs.Sequences.{follows, ordered}
 
 -- every volume is that of an order
 abbrev pub Small : List Point → Type 0

@@ -1,6 +1,6 @@
 -- The rounding and the straight line. Only the first lemma opens `nudge`.
-use Rattle.std.specs.Prelude.{◌≡◌, ℕ, ◌+◌, ◌-◌, ◌*◌, ◌/◌, ◌<◌, ◌≤◌, refl}
-use Rattle.std.proofs.Common.{ap, sym, ◌∙◌, subst, arith, mul-le-mul_right, div-mul-le_self}
+use Rattle.std.specs.Prelude.{◌≡◌, ℕ, ◌+◌, ◌-◌, ◌*◌, ◌/◌, ◌<◌, ◌≤◌}
+use Rattle.std.proofs.Common.{ap, ◌∙◌, arith, mul-le-mul_right, div-mul-le_self}
 use Rattle.std.proofs.Math.Nat.{add-mul-div_right}
 use Rattle.std.proofs.lemmas.Nat.{le-div, div_below}
 use Rattle.curves.specs.Points.{Point}

@@ -117,7 +117,7 @@ pub opening_returns : (o : Opening) (rows : List Row) → length o.references �
 opening_returns o rows n h = day_returns (tick_values o.references) (sets_of o.blocks) (places rows) (ticks_length o.references ∙ n) (ticks_within o.references) (sets_few o.blocks) (sets_within o.blocks) h
 
 -- the orders of a day that was read stand in its table
-orders_stages : (d : DayText) → day_text.Fits d → Stages (order_line (length d.sets)) booked empty_book d.orders
+pub orders_stages : (d : DayText) → day_text.Fits d → Stages (order_line (length d.sets)) booked empty_book d.orders
 unfolding day_text orders_text
 orders_stages d h = h.1.1.1.1
 

@@ -1,4 +1,3 @@
-use Rattle.std.proofs.Common.{◌≡◌, length, arith}
 use Rattle.std.proofs.lemmas.List.{length-set}
 use Rattle.allocation.specs.Shares.{share_of, shares_of}
 use Rattle.allocation.proofs.Summing.{mapped_more, mapped_all}

@@ -1,4 +1,4 @@
-use Rattle.std.proofs.Common.{◌≡◌, ◌≤◌, map, length, take}
+use Rattle.std.proofs.Common.{◌≡◌, map, length, take}
 use Rattle.allocation.specs.Shares.{share_of}
 use Rattle.allocation.proofs.shares.serve.Given as goal
 

@@ -1,6 +1,6 @@
-use Rattle.std.proofs.Common.{◌≡◌, ℕ, ◌+◌, ◌-◌, ◌*◌, ◌≤◌, true, length, drop, ap, ◌∙◌, arith}
+use Rattle.std.proofs.Common.{◌≡◌, ℕ, ◌+◌, ◌-◌, ◌≤◌, length, drop, ap, ◌∙◌, arith}
 use Rattle.std.proofs.lemmas.Bool.{leb-true}
-use Rattle.areas.specs.Area.{sum_from, area_of}
+use Rattle.areas.specs.Area.{area_of}
 use Rattle.areas.specs.Runs.{run_shows}
 use Rattle.areas.proofs.Piecewise.{Neighbours, neighbours, rest_below, below_next, below_last, below_whole, area_fits}
 use Rattle.areas.proofs.chains.below.Goals as goal

@@ -1,9 +1,8 @@
-use Rattle.std.proofs.Common.{◌≡◌, ℕ, ◌+◌, ◌-◌, ◌*◌, ◌≤◌, max, sym, ap, ◌∙◌, arith}
+use Rattle.std.proofs.Common.{◌≡◌, ℕ, ◌+◌, ◌-◌, ◌≤◌, max, sym, ap, ◌∙◌, arith}
 use Rattle.areas.specs.declared.runs.Run.{Run}
 use Rattle.areas.specs.declared.runs.Run.TheVariants.{Level, Sloped}
 use Rattle.areas.specs.Area.{sum_from}
 use Rattle.areas.specs.Runs.{between}
-use Rattle.areas.specs.Slope.{slope_sum}
 use Rattle.areas.proofs.Sums.{sum_slope_back}
 use Rattle.areas.proofs.pieces.piece_above.Goals as goal
 use Rattle.curves.specs.declared.sides.Side.TheVariants.{Buy}

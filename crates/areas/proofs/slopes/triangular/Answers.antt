@@ -1,4 +1,4 @@
-use Rattle.std.proofs.Common.{◌≡◌, ℕ, sym, ap, ◌∙◌, arith}
+use Rattle.std.proofs.Common.{◌≡◌, sym, ap, arith}
 use Rattle.areas.specs.Slope.{triangle}
 use Rattle.areas.proofs.Euclid.{triangle_is}
 use Rattle.areas.proofs.slopes.triangular.Goals as goal

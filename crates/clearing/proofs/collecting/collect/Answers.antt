@@ -1,6 +1,5 @@
-use Rattle.std.proofs.Common.{◌≡◌, List, Option, ap, ◌∙◌}
+use Rattle.std.proofs.Common.{◌≡◌, ap, ◌∙◌}
 use Rattle.book.specs.Views.{place_of, places, sets_of}
-use Rattle.clearing.specs.declared.blocks.Block.{Block}
 use Rattle.clearing.specs.Blocks.{block_of, blocks_of, small_blocks}
 use Rattle.clearing.proofs.Tabled.{mapped_more}
 use Rattle.clearing.proofs.Collected.{collected, blocks_small}

@@ -1,9 +1,8 @@
-use Rattle.std.proofs.Common.{◌≡◌, ℕ, ◌≤◌, Bool, List, length, Option, sym, ap, ◌∙◌, arith}
+use Rattle.std.proofs.Common.{◌≡◌, ◌≤◌, List, length, Option, ap, ◌∙◌, arith}
 use Rattle.book.specs.Views.{places, sets_of}
 use Rattle.clearing.specs.declared.blocks.Block.{Block}
-use Rattle.clearing.specs.declared.results.HourResult.{HourResult}
 use Rattle.clearing.specs.Blocks.{blocks_of}
-use Rattle.clearing.specs.Rounds.{outcome, rounds_of, stood}
+use Rattle.clearing.specs.Rounds.{outcome, rounds_of}
 use Rattle.clearing.specs.Clearing.{ticks, results_of}
 use Rattle.clearing.proofs.Cleared.{places_length, blocks_cleared, day_cleared, stood_last, hours_priced}
 use Rattle.clearing.proofs.fixing.clear.Goals as goal

@@ -1,8 +1,8 @@
-use Rattle.std.proofs.Common.{◌≡◌, ℕ, ◌-◌, ◌<◌, ◌≤◌, List, length, sym, ap, ◌∙◌, arith}
+use Rattle.std.proofs.Common.{◌≡◌, ℕ, ◌-◌, ◌<◌, ◌≤◌, List, length, ap, ◌∙◌, arith}
 use Rattle.curves.specs.declared.sides.Side.{Side}
 use Rattle.curves.specs.declared.sides.Side.TheVariants.{Buy, Sell}
 use Rattle.book.specs.Views.{places, sets_of}
-use Rattle.clearing.specs.Sharing.{both_sides, side_shares, shares_on, hour_shares}
+use Rattle.clearing.specs.Sharing.{both_sides, side_shares, shares_on}
 use Rattle.clearing.proofs.Cleared.{places_length}
 use Rattle.clearing.proofs.Balanced.{hour_shared}
 use Rattle.clearing.proofs.sharing.share_sides.Goals as goal

@@ -1,4 +1,4 @@
-use Rattle.std.proofs.Common.{◌≡◌, ℕ, ◌+◌, ◌-◌, ◌<◌, List, map, length, get_or, None, Option, sym, ap, ◌∙◌, arith}
+use Rattle.std.proofs.Common.{◌≡◌, ℕ, ◌+◌, ◌-◌, ◌<◌, List, map, length, get_or, None, Option, ap, ◌∙◌, arith}
 use Rattle.allocation.specs.declared.block.BlockClaim.{BlockClaim}
 use Rattle.allocation.specs.declared.market.MarketClaim.{MarketClaim}
 use Rattle.allocation.specs.declared.limit.LimitClaim.{LimitClaim}

@@ -1,7 +1,7 @@
-use Rattle.std.proofs.Common.{◌≡◌, ◌≤◌, length, take, ap, ◌∙◌, arith, rules}
+use Rattle.std.proofs.Common.{ap, ◌∙◌, arith}
 use Rattle.curves.specs.Sequences.{ordered}
-use Rattle.curves.specs.Views.{points, quotes}
-use Rattle.curves.proofs.Paired.{Proper, pairs_proper, quotes_long}
+use Rattle.curves.specs.Views.{quotes}
+use Rattle.curves.proofs.Paired.{pairs_proper, quotes_long}
 use Rattle.curves.proofs.building.link.Goals as goal
 
 pub rebuilt-pairs-requires : goal.rebuilt-pairs-requires

@@ -1,5 +1,4 @@
-use Rattle.std.proofs.Common.{◌≡◌, ◌∙◌}
-use Rattle.curves.specs.Price.{better, prefer}
+use Rattle.curves.specs.Price.{better}
 use Rattle.curves.proofs.prices.choose.Goals as goal
 
 pub returns : goal.returns

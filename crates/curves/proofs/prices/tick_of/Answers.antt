@@ -1,4 +1,4 @@
-use Rattle.std.proofs.Common.{◌≡◌, ℕ, ◌<◌, ◌≤◌, sym, refl, ◌∙◌, arith}
+use Rattle.std.proofs.Common.{◌≡◌, ◌<◌, sym, arith}
 use Rattle.curves.specs.Price.{price_of}
 use Rattle.curves.proofs.Rules.{Parted, Settled, parted_at, settled_price, price_even, price_over_ladder, price_under, price_turn}
 use Rattle.curves.proofs.prices.tick_of.Given as given

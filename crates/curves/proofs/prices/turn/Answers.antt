@@ -1,4 +1,4 @@
-use Rattle.std.proofs.Common.{◌≡◌, sym, arith}
+use Rattle.std.proofs.Common.{sym, arith}
 use Rattle.curves.proofs.Ladders.{least_is}
 use Rattle.curves.specs.Halving.{passes}
 use Rattle.curves.proofs.prices.turn.Goals as goal

@@ -1,4 +1,4 @@
-use Rattle.std.proofs.Common.{◌≡◌, ℕ, ◌+◌, Bool, true, List, set, sym, ap, ◌∙◌, subst}
+use Rattle.std.proofs.Common.{ℕ, ◌+◌, Bool, true, List, set, sym, ◌∙◌, subst}
 use Rattle.book.specs.Views.{places}
 use Rattle.clearing.specs.declared.results.HourResult.{HourResult}
 use Rattle.clearing.specs.Results.{no_result}
