@@ -54,10 +54,10 @@ fn orders_stand_in_stamp_sequence(rt: HostRuntime) -> Result<(), Fail> {
     fill(&mut rows)?;
     let mut out = [b'.'; 200];
     assert_eq!(rt; write(&opening()?, &rows, &mut out), Ok(197));
-    assert_eq!(rt; &out[0..14], b"hours 24\n5000 ");
+    assert_eq!(rt; &out[0..14], b"hours 24\n5000 ".as_slice());
     assert_eq!(rt;
         &out[124..200],
-        b"5000\nblocks 1\n3\norders 2\n9 7 1 buy step 1 6000 100\n0 7 25 sell market 10\n..."
+        b"5000\nblocks 1\n3\norders 2\n9 7 1 buy step 1 6000 100\n0 7 25 sell market 10\n...".as_slice()
     );
     Ok(())
 }
@@ -69,9 +69,9 @@ fn a_short_output_is_left_as_it_was(rt: HostRuntime) -> Result<(), Fail> {
     let mut out = [b'.'; 196];
     let refused = Err(Refusal::WrongLength.without_text());
     assert_eq!(rt; write(&opening()?, &rows, &mut out), refused);
-    assert_eq!(rt; &out[0..5], b".....");
+    assert_eq!(rt; &out[0..5], b".....".as_slice());
     let mut page = [b'.'; 200];
     assert_eq!(rt; write(&opening()?, &rows[0..255], &mut page), refused);
-    assert_eq!(rt; &page[0..5], b".....");
+    assert_eq!(rt; &page[0..5], b".....".as_slice());
     Ok(())
 }

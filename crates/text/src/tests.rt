@@ -57,5 +57,5 @@ fn what_is_written_is_read(rt: HostRuntime) {
     let mut reader = Reader::new(&out);
     assert_eq!(rt; reader.keyword(0, b"hours", Close::Space), Ok(()));
     assert_eq!(rt; reader.number(0, 24, 24, Close::Line), Ok(24));
-    assert_eq!(rt; reader.rest(), b"...");
+    assert_eq!(rt; reader.rest(), b"...".as_slice());
 }
