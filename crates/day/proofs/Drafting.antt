@@ -8,7 +8,6 @@ use Rattle.book.specs.Bids.{Asked, Place}
 use Rattle.book.specs.Conditions.{Condition, decide, unless}
 use Rattle.book.specs.Drafted.{too_many, asked_of, draft_verdict}
 use Rattle.book.specs.Entering.{written, of_table, in_table}
-use Rattle.book.specs.Verdicts.{verdict}
 use Rattle.book.specs.declared.drafts.Draft.{Draft}
 use Rattle.calls.specs.declared.calls.Call.TheVariants.{Enter, Change}
 use Rattle.calls.specs.Moves.{Move, entering, changing, overfull, move_of}

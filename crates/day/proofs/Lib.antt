@@ -1,3 +1,4 @@
 pub mod Drafting
 pub mod Turning
 pub mod Opened
+pub mod Valued

@@ -1,5 +1,5 @@
 -- A day that a load opens.
-use Rattle.std.proofs.Common.{◌≡◌, ℕ, List, [], sym, refl, ap, ◌∙◌, arith}
+use Rattle.std.proofs.Common.{◌≡◌, ℕ, List, [], ap, arith}
 use Rattle.faults.specs.declared.fault.Fault.{Fault}
 use Rattle.book.specs.Bids.{Place}
 use Rattle.clearing.specs.declared.marks.Mark.{Mark}

@@ -1,28 +1,20 @@
 -- A call that the phase has: its answer, and the day that it leaves.
-use Rattle.std.proofs.Common.{◌≡◌, ℕ, ◌+◌, ◌<◌, Bool, true, false, cond, not, ◌||◌, eqb, List, [], ◌∷◌, ◌++◌, length, take, set, Ok, Err, Result, sym, refl, ap, ◌∙◌, arith}
+use Rattle.std.proofs.Common.{◌≡◌, ℕ, ◌+◌, ◌<◌, Bool, true, false, cond, not, List, [], ◌∷◌, ◌++◌, length, take, Ok, Err, Result, sym, refl, ap, ◌∙◌, arith}
 use Rattle.std.proofs.lemmas.List.{take_more_set}
 use Rattle.std.proofs.lemmas.Bool.{eq-eqb, and_from}
 use Rattle.faults.specs.declared.fault.Fault.{Fault}
 use Rattle.faults.specs.declared.fault.Refusal.TheVariants.{WrongPhase}
 use Rattle.faults.specs.Answers.{out_of_range, wrong_length}
 use Rattle.faults.specs.Refusals.{fault}
-use Rattle.book.specs.Bids.{Asked, Place, vacant}
-use Rattle.book.specs.Conditions.{Condition, when, decide, unless}
-use Rattle.book.specs.Drafted.{too_many, asked_of}
-use Rattle.book.specs.Entering.{enter_answer, change_answer, enter_refusals, change_refusals, withdraw_refusals, withdraw_numbers, withdraw_answer, withdrawn}
-use Rattle.book.specs.Verdicts.{verdict, bad_row, bad_member}
-use Rattle.book.specs.declared.drafts.Draft.{Draft}
-use Rattle.calls.specs.declared.calls.Call.TheVariants.{Enter, Change}
+use Rattle.book.specs.Conditions.{Condition, when, decide}
 use Rattle.calls.specs.declared.posts.PostOrder.{PostOrder}
 use Rattle.clearing.specs.declared.results.HourResult.{HourResult}
-use Rattle.calls.specs.Moves.{Move, entering, changing, withdrawing, fixing, recalling, confirming, posting, finishing, overfull, move_of}
+use Rattle.calls.specs.Moves.{Move, entering, changing, withdrawing, fixing, recalling, confirming, posting, finishing, overfull}
 use Rattle.posting.specs.declared.fills.Fill.{Fill}
 use Rattle.posting.specs.Posts.{listed, bad_post, post_refusals, post_decided, fill_of, fill_with, post_answer, posts_after}
-use Rattle.day.specs.declared.phases.Phase.{Phase}
-use Rattle.day.specs.declared.phases.Phase.TheVariants.{Open, Post, Final}
-use Rattle.day.specs.Answers.{judged, offers, first, out_of_phase, answer, left, written, emptied, filled}
-use Rattle.day.specs.States.{State, is_open, is_post}
-use Rattle.day.specs.Views.{enter_draft, change_draft, places_after, given_after}
+use Rattle.day.specs.declared.phases.Phase.TheVariants.{Post, Final}
+use Rattle.day.specs.Answers.{judged, offers, first, out_of_phase, answer, left}
+use Rattle.day.specs.States.{State, is_post}
 
 -- the phase has the call, so that the first refusal falls away
 pub offered : (t : Bool) (cs : List Condition) (x : ℕ) → t ≡ true → decide (when (not t) WrongPhase ∷ cs) x ≡ decide cs x

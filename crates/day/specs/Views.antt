@@ -1,14 +1,15 @@
 -- The plain day behind a day of the code.
-use Rattle.std.specs.Prelude.{ℕ, ◌+◌, cond, List, [], length, Ok, Err, Result, ◌==◌, slice_set}
+use Rattle.std.specs.Prelude.{ℕ, cond, List, length, Ok, Err, Result, ◌==◌, slice_set}
 use Rattle.faults.specs.declared.fault.Fault.{Fault}
 use Rattle.faults.specs.Answers.{wrong_length}
 use Rattle.book.specs.Bids.{Asked, Place, held, bid_of}
 use Rattle.book.specs.Drafted.{asked_of}
 use Rattle.book.specs.Entering.{enter_answer, change_answer}
-use Rattle.book.specs.Views.{places, sets_of, tick_values}
+use Rattle.book.specs.Views.{places, sets_of}
+use Rattle.dayfile.specs.Views.{tick_values}
 use Rattle.book.specs.declared.drafts.Draft.{Draft}
 use Rattle.calls.specs.declared.calls.Call.TheVariants.{Enter, Change}
-use Rattle.calls.specs.Moves.{Move, move_of}
+use Rattle.calls.specs.Moves.{move_of}
 use Rattle.clearing.specs.declared.marks.Mark.{Mark}
 use Rattle.clearing.specs.declared.results.HourResult.{HourResult}
 use Rattle.dayfile.specs.Day.{DayText, empty_book, booked}

@@ -1,5 +1,5 @@
 -- Post fills stay within the surplus and stand on the side opposite to it.
-use Rattle.std.proofs.Common.{◌≡◌, ℕ, ◌+◌, ◌-◌, ◌<◌, ◌≤◌, min, Bool, true, false, cond, ◌&&◌, ◌||◌, eqb, List, [], ◌∷◌, ◌++◌, Ok, Err, Result, sym, refl, ap, ◌∙◌, subst, append-nil, add_assoc, arith}
+use Rattle.std.proofs.Common.{◌≡◌, ℕ, ◌+◌, ◌-◌, ◌≤◌, min, Bool, true, false, cond, ◌&&◌, ◌||◌, eqb, List, [], ◌∷◌, ◌++◌, Ok, Err, Result, sym, refl, ap, ◌∙◌, subst, append-nil, add_assoc, arith}
 use Rattle.std.specs.List.{AllByRecursion as All}
 use Rattle.std.proofs.ByRecursion.{All-push}
 use Rattle.std.proofs.lemmas.Bool.{eqb-true}
@@ -12,14 +12,13 @@ use Rattle.calls.specs.Moves.{Move, entering, changing, withdrawing, fixing, rec
 use Rattle.clearing.specs.declared.results.HourResult.{HourResult}
 use Rattle.clearing.specs.Results.{result_at}
 use Rattle.posting.specs.declared.fills.Fill.{Fill}
-use Rattle.posting.specs.Posts.{taken_by, filled_in, taken_on, filled_on, left_in, fill_of, fill_with}
-use Rattle.day.specs.States.{is_open, is_fixed}
+use Rattle.posting.specs.Posts.{taken_by, filled_in, filled_on, left_in, fill_with}
 use Rattle.day.specs.Answers.{answer}
 use Rattle.history.specs.Events.{Event, event}
 use Rattle.history.specs.Told.{phase_told, results_told, fill_by, posts_told, state_told, Answered}
 use Rattle.history.proofs.Granting.{Grants, grants, never}
 use Rattle.history.proofs.Steps.{none_filled}
-use Rattle.history.proofs.Phased.{no_way, before_post, open_before, fixed_before, Phased, phased}
+use Rattle.history.proofs.Phased.{no_way, open_before, fixed_before, Phased, phased}
 
 filled_push : (hour : ℕ) (fs : List Fill) (f : Fill) → filled_in hour (fs ++ (f ∷ [])) ≡ filled_in hour fs + taken_by hour f
 unfolding filled_in

@@ -1,9 +1,8 @@
 -- A call that was granted: no refusal's condition held, and the answer is its value.
-use Rattle.std.proofs.Common.{◌≡◌, ℕ, ◌<◌, ◌≤◌, Bool, true, false, cond, not, ◌||◌, ltb, List, [], ◌∷◌, length, Ok, Err, Result, sym, refl, ap, ◌∙◌, arith}
+use Rattle.std.proofs.Common.{◌≡◌, ℕ, ◌<◌, Bool, true, false, cond, not, ◌||◌, List, [], ◌∷◌, length, Ok, Err, Result, sym, refl, arith}
 use Rattle.std.specs.List.{AllByRecursion as All}
 use Rattle.std.proofs.lemmas.Bool.Decides.{nat_tests}
 use Rattle.faults.specs.declared.fault.Fault.{Fault}
-use Rattle.faults.specs.declared.fault.Refusal.TheVariants.{WrongPhase}
 use Rattle.faults.specs.Answers.{out_of_range}
 use Rattle.faults.specs.Refusals.{fault}
 use Rattle.book.specs.Bids.{Asked}

@@ -1,6 +1,5 @@
 -- The law of every day that a history tells.
-use Rattle.std.proofs.Common.{◌≡◌, ℕ, zero, suc, ◌+◌, ◌-◌, ◌<◌, ◌≤◌, Bool, true, false, cond, ◌⊎◌, List, [], ◌∷◌, ◌++◌, length, get_or, Ok, sym, refl, ap, ◌∙◌, subst, inl, inr, arith}
-use Rattle.std.specs.List.{AllByRecursion as All}
+use Rattle.std.proofs.Common.{◌≡◌, ℕ, suc, ◌+◌, false, List, [], ◌∷◌, length, Ok, sym, refl, ap, ◌∙◌, subst, inl, inr, arith}
 use Rattle.std.proofs.lemmas.List.{get_or_past}
 use Rattle.std.proofs.lemmas.Bool.Decides.{leb_tells}
 use Rattle.book.specs.Bids.{Asked, Bid, Place, vacant, held}
@@ -9,14 +8,14 @@ use Rattle.book.specs.Verdicts.{verdict}
 use Rattle.clearing.specs.Fixing.{Stamped}
 use Rattle.dayfile.specs.Entered.{Holding, Proper}
 use Rattle.dayfile.specs.Sequence.{order_at}
-use Rattle.day.specs.States.{State, is_open}
+use Rattle.day.specs.States.{is_open}
 use Rattle.history.specs.Events.{Event}
 use Rattle.history.specs.Told.{row_told, table_told, state_told, Answered}
 use Rattle.history.specs.Law.{Standing, SinceFix, DayLaw}
 use Rattle.history.proofs.Rows.{table_length, table_at}
 use Rattle.history.proofs.Splits.{untouched_told, last_told, opens_told, led_told, answered_told}
-use Rattle.history.proofs.Phased.{Phased, phased, since_fix_told}
-use Rattle.history.proofs.Orders.{Ordered, ordered_told, vacant_held}
+use Rattle.history.proofs.Phased.{phased, since_fix_told}
+use Rattle.history.proofs.Orders.{ordered_told, vacant_held}
 
 -- a row that holds something is one of the table
 held_in : (h : List Event) (k : ℕ) (b : Bid) → place_at (table_told h) k ≡ held b → row_told k h ≡ held b

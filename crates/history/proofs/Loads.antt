@@ -1,19 +1,18 @@
 -- A day that an accepted load opens is told by the history of its orders.
-use Rattle.std.proofs.Common.{◌≡◌, ℕ, zero, suc, ◌+◌, ◌<◌, ◌≤◌, Bool, true, false, cond, not, List, [], ◌∷◌, ◌++◌, map, length, replicate, Ok, Err, Result, sym, refl, ap, ◌∙◌, subst, append-nil, arith}
+use Rattle.std.proofs.Common.{◌≡◌, ℕ, ◌+◌, cond, not, List, [], ◌∷◌, length, replicate, Ok, Err, Result, sym, refl, ap, ◌∙◌, subst, append-nil, arith}
 use lib.ListN.{get_or-replicate, length-replicate}
 use Rattle.faults.specs.declared.fault.Fault.{Fault}
 use Rattle.faults.specs.declared.fault.Refusal.TheVariants.{WrongPhase}
 use Rattle.faults.specs.Refusals.{fault}
 use Rattle.book.specs.Bids.{Asked, Place, vacant}
-use Rattle.book.specs.Entering.{enter_answer, enter_refusals}
-use Rattle.book.specs.Conditions.{decide}
+use Rattle.book.specs.Entering.{enter_answer}
 use Rattle.book.specs.Verdicts.{verdict}
 use Rattle.calls.specs.Moves.{entering}
 use Rattle.clearing.specs.declared.marks.Mark.{Mark}
 use Rattle.clearing.specs.declared.results.HourResult.{HourResult}
 use Rattle.text.specs.Format.{got}
 use Rattle.text.specs.Staged.{granted, denied, Stages, left}
-use Rattle.dayfile.specs.Day.{DayText, Book, empty_places, empty_book, booked, ruling, line_rule, order_line, orders_text, hours_text, count_text, blocks_text, day_text}
+use Rattle.dayfile.specs.Day.{DayText, Book, empty_places, empty_book, booked, ruling, line_rule, order_line, hours_text, count_text, day_text}
 use Rattle.dayfile.proofs.Described.{faithful_day}
 use Rattle.dayfile.proofs.Fitting.{orders_stages}
 use Rattle.dayfile.proofs.Refilled.{enters_parts, enters_when}
@@ -24,7 +23,7 @@ use Rattle.day.specs.Answers.{first, answer}
 use Rattle.day.specs.Views.{opened_day}
 use Rattle.posting.specs.declared.fills.Fill.{Fill}
 use Rattle.history.specs.Events.{Event, event, loaded}
-use Rattle.history.specs.Told.{stamps_given, row_told, table_told, phase_told, results_told, marks_told, posts_told, state_told, Answered}
+use Rattle.history.specs.Told.{stamps_given, table_told, phase_told, results_told, marks_told, posts_told, state_told, Answered}
 use Rattle.history.specs.Runs.{IsTold}
 use Rattle.history.proofs.Rows.{table_is}
 use Rattle.history.proofs.Steps.{told_step}

@@ -1,10 +1,10 @@
 -- The orders of a day: no two have one stamp, none is refused by itself, and at most 32 are blocks.
-use Rattle.std.proofs.Common.{◌≡◌, ℕ, zero, suc, ◌+◌, ◌<◌, ◌≤◌, Bool, true, false, cond, ◌&&◌, eqb, leb, ◌⊎◌, List, [], ◌∷◌, map, length, take, drop, set, Ok, Err, Result, sym, refl, ap, ◌∙◌, subst, inl, inr, add-one, arith}
+use Rattle.std.proofs.Common.{◌≡◌, ℕ, zero, suc, ◌+◌, ◌<◌, ◌≤◌, Bool, true, false, cond, ◌&&◌, eqb, leb, ◌⊎◌, List, [], ◌∷◌, map, length, drop, set, Ok, Err, Result, sym, refl, ap, ◌∙◌, subst, inl, inr, add-one, arith}
 use Rattle.std.specs.List.{range_with_len}
 use Rattle.std.proofs.lemmas.Bool.Decides.{nat_tests, eqb_tells}
 use Rattle.faults.specs.declared.fault.Fault.{Fault}
 use Rattle.book.specs.Bids.{Asked, Bid, Place, vacant, held, bid_of}
-use Rattle.book.specs.Places.{place_at, holds_block, blocks_held, others}
+use Rattle.book.specs.Places.{holds_block, blocks_held, others}
 use Rattle.book.specs.Verdicts.{is_block, verdict}
 use Rattle.calls.specs.Moves.{Move, entering, changing, withdrawing, fixing, recalling, confirming, posting, finishing, overfull}
 use Rattle.dayfile.specs.Sequence.{order_at}
@@ -13,7 +13,6 @@ use Rattle.history.specs.Events.{Event, event}
 use Rattle.history.specs.Told.{stamps_given, row_told, table_told, state_told, Answered}
 use Rattle.history.proofs.Granting.{Grants, grants, never, row_asked, row_withdrawn}
 use Rattle.history.proofs.Rows.{table_length, table_set, table_same}
-use Rattle.history.proofs.Phased.{no_way}
 
 -- the blocks of a table in which one place is set
 drop_cons : (p : Place) (ps : List Place) (r : ℕ) → drop (suc r + 1) (p ∷ ps) ≡ drop (r + 1) ps

@@ -1,8 +1,7 @@
 -- Results, marks and the post list by the phase: zero while open, cleared from a fix on, and no post before a confirm.
-use Rattle.std.proofs.Common.{◌≡◌, ℕ, ◌+◌, ◌<◌, Bool, true, false, cond, ◌&&◌, List, [], ◌∷◌, ◌++◌, Ok, Err, Result, sym, refl, ap, ◌∙◌, subst, append-nil, arith}
+use Rattle.std.proofs.Common.{◌≡◌, ℕ, Bool, true, false, List, [], ◌∷◌, ◌++◌, Ok, Err, Result, sym, refl, ap, ◌∙◌, subst, append-nil, arith}
 use Rattle.std.specs.List.{AllByRecursion as All}
 use Rattle.faults.specs.declared.fault.Fault.{Fault}
-use Rattle.book.specs.Bids.{Place}
 use Rattle.calls.specs.Moves.{Move, entering, changing, withdrawing, fixing, recalling, confirming, posting, finishing, overfull}
 use Rattle.clearing.specs.Clearing.{clearing_of}
 use Rattle.posting.specs.declared.fills.Fill.{Fill}
@@ -11,7 +10,7 @@ use Rattle.day.specs.declared.phases.Phase.TheVariants.{Open, Fixed, Post, Final
 use Rattle.day.specs.States.{no_results, no_marks, is_open, is_fixed, is_post}
 use Rattle.day.specs.Answers.{answer}
 use Rattle.history.specs.Events.{Event, event, is_granted}
-use Rattle.history.specs.Told.{row_told, table_told, phase_told, results_told, marks_told, fill_by, posts_told, state_told, Answered}
+use Rattle.history.specs.Told.{row_told, table_told, phase_told, results_told, marks_told, posts_told, state_told, Answered}
 use Rattle.history.specs.Law.{recalls, SinceFix}
 use Rattle.history.proofs.Granting.{Grants, grants, never}
 use Rattle.history.proofs.Rows.{table_same}

@@ -1,12 +1,13 @@
 -- Calls one after another: what the history of the first of them tells.
-use Rattle.std.proofs.Common.{◌≡◌, ℕ, zero, suc, ◌+◌, ◌-◌, ◌<◌, ◌≤◌, Bool, true, false, cond, ◌⊎◌, List, [], ◌∷◌, ◌++◌, map, length, get_or, take, set, Result, sym, refl, ap, ◌∙◌, subst, inl, inr, arith, length-take}
+use Rattle.std.proofs.Common.{◌≡◌, ℕ, ◌+◌, ◌-◌, ◌<◌, ◌≤◌, List, [], ◌∷◌, ◌++◌, length, get_or, take, set, Result, sym, refl, ap, ◌∙◌, subst, inl, inr, arith, length-take}
 use lib.Seq.{take-set-le}
 use Rattle.std.specs.List.{AllByRecursion as All}
 use Rattle.std.proofs.lemmas.List.{take_more, take_more_set, take_all, length-map, get_or-map}
 use Rattle.std.proofs.lemmas.Bool.Decides.{leb_tells}
 use Rattle.faults.specs.declared.fault.Fault.{Fault}
 use Rattle.book.specs.Places.{blocks_held}
-use Rattle.book.specs.Views.{places, tick_values}
+use Rattle.book.specs.Views.{places}
+use Rattle.dayfile.specs.Views.{tick_values}
 use Rattle.book.proofs.Placed.{placed_length}
 use Rattle.curves.specs.declared.ticks.Tick.{Tick}
 use Rattle.calls.specs.declared.calls.Call.{Call}
@@ -14,14 +15,14 @@ use Rattle.calls.specs.Moves.{Move, move_of, moves}
 use Rattle.clearing.specs.Results.{result_at}
 use Rattle.clearing.specs.Fixing.{Stamped}
 use Rattle.day.specs.declared.days.Day.{Day}
-use Rattle.day.specs.States.{State, is_open}
+use Rattle.day.specs.States.{State}
 use Rattle.day.specs.Answers.{answer, left, clearing_in}
 use Rattle.day.specs.Views.{day_of}
 use Rattle.posting.specs.Posts.{listed, filled_in}
 use Rattle.history.specs.Events.{Event, event, recorded}
 use Rattle.history.specs.Told.{table_told, state_told, Answered, answers_told}
 use Rattle.history.specs.Law.{Standing, DayLaw}
-use Rattle.history.specs.Runs.{Played, IsTold}
+use Rattle.history.specs.Runs.{Played}
 use Rattle.history.proofs.Rows.{table_length}
 use Rattle.history.proofs.Steps.{told_step}
 use Rattle.history.proofs.Phased.{phased}

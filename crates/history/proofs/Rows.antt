@@ -1,12 +1,11 @@
 -- The order table that a history tells, row by row.
-use Rattle.std.proofs.Common.{◌≡◌, ℕ, ◌+◌, ◌<◌, ◌≤◌, Bool, true, false, cond, eqb, ◌⊎◌, List, [], ◌∷◌, map, length, get_or, set, sym, refl, ap, ◌∙◌, inl, inr, arith, length-set, get_or-set_other, get_or-set_same}
-use Rattle.std.specs.List.{range_with_len}
+use Rattle.std.proofs.Common.{◌≡◌, ℕ, ◌<◌, cond, eqb, List, ◌∷◌, length, set, sym, ◌∙◌, inl, inr, arith, length-set, get_or-set_other, get_or-set_same}
 use Rattle.std.proofs.lemmas.List.FromFn.{fill_by_all, length-map-range_with_len, get_or-map-range_with_len}
 use Rattle.std.proofs.lemmas.Bool.Decides.{eqb_tells}
 use Rattle.book.specs.Bids.{Place, vacant}
 use Rattle.book.specs.Places.{place_at}
 use Rattle.history.specs.Events.{Event}
-use Rattle.history.specs.Told.{row_told, table_told, touches}
+use Rattle.history.specs.Told.{row_told, table_told}
 
 pub table_length : (h : List Event) → length (table_told h) ≡ 256
 unfolding table_told

@@ -1,20 +1,20 @@
 -- Wherever prices stand: best price, blocks, priority and balance of a day with the rows that it holds.
 use Rattle.std.proofs.Common.{◌≡◌, ℕ, ◌+◌, ◌-◌, ◌<◌, ◌≤◌, Bool, true, false, cond, List, length, sum, sym, refl, ap, ◌∙◌, subst, arith}
 use Rattle.std.specs.List.{AllByRecursion as All}
-use Rattle.curves.specs.declared.sides.Side.{Side}
 use Rattle.book.specs.Bids.{Place}
 use Rattle.book.specs.Places.{blocks_held}
 use Rattle.book.specs.Shown.{same_side}
-use Rattle.book.specs.Views.{places, sets_of, tick_values}
+use Rattle.book.specs.Views.{places, sets_of}
+use Rattle.dayfile.specs.Views.{tick_values}
 use Rattle.book.specs.declared.rows.Row.{Row}
 use Rattle.clearing.specs.declared.marks.Mark.{Mark}
 use Rattle.clearing.specs.declared.results.HourResult.{HourResult}
 use Rattle.clearing.specs.Hours.{day_hours}
 use Rattle.clearing.specs.Results.{result_at}
 use Rattle.clearing.specs.Blocks.{blocks_of}
-use Rattle.clearing.specs.Rounds.{Outcome, outcome, rounds_of, stood}
-use Rattle.clearing.specs.Clearing.{results_of, clearing_of}
-use Rattle.clearing.specs.Fixing.{Stamped, BlocksCleared, HoursPriced}
+use Rattle.clearing.specs.Rounds.{Outcome, rounds_of}
+use Rattle.clearing.specs.Clearing.{ticks, results_of, clearing_of}
+use Rattle.clearing.specs.Fixing.{Stamped, BlocksCleared}
 use Rattle.clearing.specs.Sharing.{shares_on, HourShared, FromClearing}
 use Rattle.clearing.proofs.Settling.{running_settled}
 use Rattle.clearing.proofs.Cleared.{blocks_length, blocks_cleared, hours_priced}
@@ -50,6 +50,7 @@ module _ (p : Phase) (o : Opening) (rows : List Row) (rs : List HourResult) (ms 
   pub standing : length rows ≡ 256 → length o.references ≡ 24 → rs ≡ (clearing_in day).results → ms ≡ (clearing_in day).marks
       → Stamped (places rows) → blocks_held (places rows) ≤ 32
       → ((hour : ℕ) → filled_in hour fs ≤ (result_at rs (hour - 1)).surplus) → All (Facing rs) fs → Standing day
+  unfolding ticks tick_values
   standing long refs is marks apart few within opposite =
       let ps = places rows in
       let sets = sets_of o.blocks in

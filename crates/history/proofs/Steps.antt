@@ -1,5 +1,5 @@
 -- One event more: what a call leaves is what the longer history tells.
-use Rattle.std.proofs.Common.{◌≡◌, ℕ, ◌+◌, ◌<◌, Bool, true, false, cond, List, [], ◌∷◌, ◌++◌, length, set, Ok, Err, Result, sym, refl, ap, ◌∙◌, append-nil}
+use Rattle.std.proofs.Common.{◌≡◌, ℕ, ◌+◌, List, [], ◌∷◌, ◌++◌, length, set, Ok, Err, Result, sym, refl, ap, ◌∙◌, append-nil}
 use Rattle.faults.specs.declared.fault.Fault.{Fault}
 use Rattle.book.specs.Bids.{Asked, Place, vacant, held, bid_of}
 use Rattle.calls.specs.Moves.{Move, entering, changing, withdrawing, fixing, recalling, confirming, posting, finishing, overfull}
@@ -10,7 +10,7 @@ use Rattle.posting.specs.declared.fills.Fill.{Fill}
 use Rattle.day.specs.declared.phases.Phase.{Phase}
 use Rattle.day.specs.declared.phases.Phase.TheVariants.{Open, Fixed, Post, Final}
 use Rattle.day.specs.States.{State, no_results, no_marks}
-use Rattle.day.specs.Answers.{judged, answer, left}
+use Rattle.day.specs.Answers.{answer, left}
 use Rattle.history.specs.Events.{Event, event}
 use Rattle.history.specs.Told.{stamps_given, row_told, table_told, phase_told, results_told, marks_told, fill_by, posts_told, state_told}
 use Rattle.history.proofs.Granting.{Grants, grants, row_asked, row_withdrawn, never}

@@ -1,5 +1,5 @@
 -- A run is what its text and its calls lead to.
-use Rattle.std.proofs.Common.{◌≡◌, ℕ, Bool, true, false, List, [], length, drop, Ok, Result, sym, refl, ap, ◌∙◌, subst, arith}
+use Rattle.std.proofs.Common.{◌≡◌, ℕ, Bool, true, List, [], drop, Ok, Result, sym, refl, ap, ◌∙◌, subst, arith}
 use Rattle.faults.specs.declared.fault.Fault.{Fault}
 use Rattle.calls.specs.Moves.{Move}
 use Rattle.text.specs.Format.{Outcome, got, refused, onward}

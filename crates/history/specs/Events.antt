@@ -1,5 +1,5 @@
 -- The history of a day: its calls with their answers, the latest first.
-use Rattle.std.specs.Prelude.{ℕ, ◌+◌, Bool, true, false, List, [], ◌∷◌, is_ok, Some, None, Ok, Err, Option, Result}
+use Rattle.std.specs.Prelude.{ℕ, ◌+◌, Bool, true, false, List, [], ◌∷◌, is_ok, Some, None, Ok, Option, Result}
 use Rattle.faults.specs.declared.fault.Fault.{Fault}
 use Rattle.book.specs.Bids.{Asked}
 use Rattle.calls.specs.Moves.{Move, entering, changing, withdrawing, fixing, recalling, confirming, posting, finishing, overfull}

@@ -1,19 +1,18 @@
 -- The law of a day, in the auction's words: what its history says of its orders, its phase, its prices and its post list.
-use Rattle.std.specs.Prelude.{◌≡◌, ℕ, ◌+◌, ◌-◌, ◌<◌, ◌≤◌, Bool, true, false, cond, ◌&&◌, List, [], ◌∷◌, ◌++◌, length, is_some, Some, None, Ok, Err, sum, Option, Result}
+use Rattle.std.specs.Prelude.{◌≡◌, ℕ, ◌+◌, ◌-◌, ◌<◌, ◌≤◌, Bool, true, false, ◌&&◌, List, ◌∷◌, ◌++◌, length, is_some, Some, Ok, sum, Result}
 use Rattle.std.specs.List.{AllByRecursion as All}
 use Rattle.faults.specs.declared.fault.Fault.{Fault}
 use Rattle.curves.specs.declared.sides.Side.{Side}
-use Rattle.book.specs.Bids.{Place, vacant}
+use Rattle.book.specs.Bids.{vacant}
 use Rattle.book.specs.Places.{place_at}
 use Rattle.book.specs.Shown.{same_side}
-use Rattle.calls.specs.Moves.{Move, fixing}
+use Rattle.calls.specs.Moves.{fixing}
 use Rattle.clearing.specs.Hours.{day_hours}
 use Rattle.clearing.specs.Results.{result_at}
 use Rattle.clearing.specs.Clearing.{clearing_of}
 use Rattle.clearing.specs.Fixing.{Stamped, BlocksCleared, HoursPriced}
 use Rattle.clearing.specs.Sharing.{shares_on, HourShared}
 use Rattle.dayfile.specs.Entered.{Proper}
-use Rattle.posting.specs.declared.fills.Fill.{Fill}
 use Rattle.posting.specs.Posts.{filled_in, filled_on}
 use Rattle.day.specs.declared.phases.Phase.{Phase}
 use Rattle.day.specs.declared.phases.Phase.TheVariants.{Open}

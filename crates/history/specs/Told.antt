@@ -1,5 +1,5 @@
 -- What a day holds, told from its history alone.
-use Rattle.std.specs.Prelude.{◌≡◌, ℕ, ◌+◌, Bool, true, false, cond, ◌&&◌, List, [], ◌∷◌, ◌++◌, map, is_some, Some, None, Ok, Err, Option, Result, ◌==◌}
+use Rattle.std.specs.Prelude.{◌≡◌, ℕ, ◌+◌, Bool, false, cond, ◌&&◌, List, [], ◌∷◌, ◌++◌, map, is_some, Some, None, Ok, Err, Option, Result, ◌==◌}
 use Rattle.std.specs.List.{range_with_len}
 use Rattle.faults.specs.declared.fault.Fault.{Fault}
 use Rattle.book.specs.Bids.{Asked, Place, vacant, held, bid_of}

@@ -1,5 +1,5 @@
 -- The tables of a day that was opened: nothing is priced.
-use Rattle.std.proofs.Common.{◌≡◌, ℕ, Bool, true, false, cond, eqb, List, length, replicate, refl, ap, ◌∙◌, arith}
+use Rattle.std.proofs.Common.{◌≡◌, ℕ, Bool, true, false, cond, eqb, List, replicate, refl, ap, ◌∙◌, arith}
 use Rattle.std.proofs.lemmas.Bool.{eqb-true, and_parts}
 use Rattle.faults.specs.Answers.{wrong_length}
 use Rattle.clearing.specs.declared.marks.Mark.{Mark}

@@ -14,7 +14,7 @@ use Rattle.day.specs.declared.phases.Phase.TheVariants as phase
 use Rattle.day.specs.Answers.{answer, left}
 use Rattle.day.specs.States.{State}
 use Rattle.day.specs.Views.{state_of}
-use Rattle.day.proofs.Turning.{Told, post_told, fills_after, posts_after_is, posts_changed}
+use Rattle.day.proofs.Turning.{post_told, fills_after, posts_after_is, posts_changed}
 use Rattle.phases.specs.declared.states.Post.{Post}
 use Rattle.phases.specs.Views.{post_day, said, handed, lent_right}
 

@@ -1,7 +1,8 @@
 // Fixing a day's prices, and what settles them: recalled, the day is open again; confirmed, it goes on to post-trading.
 ghost use Rattle.std.specs.Prelude.{◌≡◌, false, List, length, IfOk, Ok as Granted, MatchResult, OnOk};
 ghost use Rattle.book.specs.Bids.{Place};
-ghost use Rattle.book.specs.Views.{places, sets_of, tick_values};
+ghost use Rattle.book.specs.Views.{places, sets_of};
+ghost use Rattle.clearing.specs.Clearing.{ticks};
 ghost use Rattle.calls.specs.declared.calls.Call.TheVariants.{Fix, Recall, Confirm};
 ghost use Rattle.calls.specs.Moves.{move_of};
 ghost use Rattle.clearing.specs.Fixing.{right_tables, BlocksCleared, HoursPriced};
@@ -32,8 +33,8 @@ impl Open {
         ensures leaves { IfOk result (λ p. fixed_day p.0 (places rows.now) hours.new marks.new ≡ left (open_day self (places rows.now)) (move_of Fix) (Granted p.1)) }
         ensures kept { MatchResult result (λ p. p.0.opening ≡ self.opening) (λ e. (e.0 ≡ self) × (hours.new ≡ hours.old) × (marks.new ≡ marks.old)) }
         ensures unsettled { IfOk result (λ p. p.0.settled ≡ false) }
-        ensures cleared { IfOk result (λ p. BlocksCleared (places rows.now) (sets_of self.opening.blocks) (tick_values self.opening.references) p.1 hours.new marks.new) }
-        ensures priced { IfOk result (λ p. HoursPriced (places rows.now) (sets_of self.opening.blocks) (tick_values self.opening.references) p.1 hours.new marks.new) }
+        ensures cleared { IfOk result (λ p. BlocksCleared (places rows.now) (sets_of self.opening.blocks) (ticks self.opening.references) p.1 hours.new marks.new) }
+        ensures priced { IfOk result (λ p. HoursPriced (places rows.now) (sets_of self.opening.blocks) (ticks self.opening.references) p.1 hours.new marks.new) }
     {
         match fix(
             rows,

@@ -3,16 +3,16 @@ ghost use Rattle.std.specs.Prelude.{◌≡◌, ◌++◌, string_bytes, OnOk};
 ghost use Rattle.report.specs.Lines.{refused_line, answer_line, answer_lines};
 
 use faults::fault::Fault;
-use std::fmt;
+use std::alloc::AllocError;
 
 // The line of a fault as it stands.
-pub fn push_fault(out: &mut String, fault: &Fault) -> fmt::Result
+pub fn push_fault(out: &mut String, fault: &Fault) -> Result<(), AllocError>
     ensures { OnOk result (string_bytes out.new ≡ string_bytes out.old ++ refused_line fault.now) }
 {
     writeln!(out, "no {fault}")
 }
 
-fn push_answer(out: &mut String, line: usize, answer: &Result<u32, Fault>) -> fmt::Result
+fn push_answer(out: &mut String, line: usize, answer: &Result<u32, Fault>) -> Result<(), AllocError>
     ensures { OnOk result (string_bytes out.new ≡ string_bytes out.old ++ answer_line line answer.now) }
 {
     match answer {
@@ -32,7 +32,7 @@ pub fn push_answers(
     out: &mut String,
     lines: &[usize],
     answers: &[Result<u32, Fault>],
-) -> fmt::Result
+) -> Result<(), AllocError>
     ensures { OnOk result (string_bytes out.new ≡ string_bytes out.old ++ answer_lines lines.now answers.now) }
 {
     for i in 0..lines.len().min(answers.len()) {

@@ -14,7 +14,7 @@ use book::rows::Row;
 use clearing::marks::Mark;
 use clearing::results::HourResult;
 use posting::fills::Fill;
-use std::fmt;
+use std::alloc::AllocError;
 
 fn push_parts(
     out: &mut String,
@@ -24,7 +24,7 @@ fn push_parts(
     marks: &[Mark],
     posts: &[Fill],
     posted: usize,
-) -> fmt::Result
+) -> Result<(), AllocError>
     requires sizes { (length rows.now ≡ 256) × ((length hours.now ≡ 24) × ((length marks.now ≡ 256) × (length posts.now ≡ 128))) }
     requires priced { prices_refused hours.now ≡ Ok tt }
     ensures { OnOk result (string_bytes out.new ≡ string_bytes out.old ++ final_text (places rows.now) (sets_of blocks.now) hours.now marks.now (listed posted posts.now)) }

@@ -11,7 +11,7 @@ use book::blocks::Blocks;
 use clearing::block_prices::block_price;
 use clearing::results::HourResult;
 use posting::fills::Fill;
-use std::fmt;
+use std::alloc::AllocError;
 
 // What was traded in an hour, counted from 0: the executed volume and the post fills.
 fn volume_in(res: &HourResult, posts: &[Fill], posted: usize, hour: usize) -> u128
@@ -28,7 +28,7 @@ pub(crate) fn push_hour(
     res: &HourResult,
     posts: &[Fill],
     posted: usize,
-) -> fmt::Result
+) -> Result<(), AllocError>
     requires { (hour < 24) × (length posts.now ≡ 128) }
     ensures { OnOk result (string_bytes out.new ≡ string_bytes out.old ++ hour_text (listed posted posts.now) hour res.now) }
 {
@@ -55,7 +55,7 @@ pub(crate) fn push_block(
     blocks: &Blocks,
     block: usize,
     hours: &[HourResult],
-) -> fmt::Result
+) -> Result<(), AllocError>
     requires { (block < 14) × ((block < length (sets_of blocks.now)) × (length hours.now ≡ 24)) }
     ensures { OnOk result (string_bytes out.new ≡ string_bytes out.old ++ block_text hours.now block (slice_index (sets_of blocks.now) block)) }
 {
@@ -65,7 +65,12 @@ pub(crate) fn push_block(
 }
 
 // What a row has of an hour, counted from 0.
-pub(crate) fn push_share(out: &mut String, row: usize, hour: usize, share: u64) -> fmt::Result
+pub(crate) fn push_share(
+    out: &mut String,
+    row: usize,
+    hour: usize,
+    share: u64,
+) -> Result<(), AllocError>
     requires { hour < 24 }
     ensures { OnOk result (string_bytes out.new ≡ string_bytes out.old ++ share_line row hour share) }
 {
@@ -76,7 +81,7 @@ pub(crate) fn push_share(out: &mut String, row: usize, hour: usize, share: u64) 
     writeln!(out, "row {row} hour {number} share {share}")
 }
 
-pub(crate) fn push_post(out: &mut String, fill: &Fill) -> fmt::Result
+pub(crate) fn push_post(out: &mut String, fill: &Fill) -> Result<(), AllocError>
     ensures { OnOk result (string_bytes out.new ≡ string_bytes out.old ++ post_line fill.now) }
 {
     let member = fill.member;

@@ -10,14 +10,14 @@ use book::blocks::Blocks;
 use book::rows::Row;
 use clearing::results::HourResult;
 use posting::fills::Fill;
-use std::fmt;
+use std::alloc::AllocError;
 
 pub(crate) fn push_hours(
     out: &mut String,
     hours: &[HourResult],
     posts: &[Fill],
     posted: usize,
-) -> fmt::Result
+) -> Result<(), AllocError>
     requires { (length hours.now ≡ 24) × (length posts.now ≡ 128) }
     ensures { OnOk result (string_bytes out.new ≡ string_bytes out.old ++ each (hour_text (listed posted posts.now)) 0 hours.now) }
 {
@@ -27,7 +27,11 @@ pub(crate) fn push_hours(
     Ok(())
 }
 
-pub(crate) fn push_blocks(out: &mut String, blocks: &Blocks, hours: &[HourResult]) -> fmt::Result
+pub(crate) fn push_blocks(
+    out: &mut String,
+    blocks: &Blocks,
+    hours: &[HourResult],
+) -> Result<(), AllocError>
     requires { length hours.now ≡ 24 }
     ensures { OnOk result (string_bytes out.new ≡ string_bytes out.old ++ each (block_text hours.now) 0 (sets_of blocks.now)) }
 {
@@ -37,7 +41,7 @@ pub(crate) fn push_blocks(out: &mut String, blocks: &Blocks, hours: &[HourResult
     Ok(())
 }
 
-fn push_row(out: &mut String, row: usize, shares: &[[u64; 256]; 24]) -> fmt::Result
+fn push_row(out: &mut String, row: usize, shares: &[[u64; 256]; 24]) -> Result<(), AllocError>
     requires { row < 256 }
     ensures { OnOk result (string_bytes out.new ≡ string_bytes out.old ++ each (share_text row) 0 shares.now) }
 {
@@ -47,7 +51,11 @@ fn push_row(out: &mut String, row: usize, shares: &[[u64; 256]; 24]) -> fmt::Res
     Ok(())
 }
 
-pub(crate) fn push_rows(out: &mut String, rows: &[Row], shares: &[[u64; 256]; 24]) -> fmt::Result
+pub(crate) fn push_rows(
+    out: &mut String,
+    rows: &[Row],
+    shares: &[[u64; 256]; 24],
+) -> Result<(), AllocError>
     requires { length rows.now ≡ 256 }
     ensures { OnOk result (string_bytes out.new ≡ string_bytes out.old ++ each (row_text shares.now) 0 (places rows.now)) }
 {
@@ -57,7 +65,7 @@ pub(crate) fn push_rows(out: &mut String, rows: &[Row], shares: &[[u64; 256]; 24
     Ok(())
 }
 
-pub(crate) fn push_posts(out: &mut String, fills: &[Fill]) -> fmt::Result
+pub(crate) fn push_posts(out: &mut String, fills: &[Fill]) -> Result<(), AllocError>
     ensures { OnOk result (string_bytes out.new ≡ string_bytes out.old ++ each post_text 0 fills.now) }
 {
     for fill in fills {

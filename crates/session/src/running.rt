@@ -15,21 +15,20 @@ use report::answers::{push_answers, push_fault};
 use report::finals::push_final;
 use report::stops::Stop;
 use std::alloc::{AllocError, Global};
-use std::fmt;
 use text::reader::Reader;
 
 // The most bytes that an input may have.
 pub const LIMIT: usize = 65_536;
 
 // What is published of a day, if it is final.
-fn push_day(out: &mut String, day: &Day) -> fmt::Result
+fn push_day(out: &mut String, day: &Day) -> Result<(), Stop>
     requires { prices_refused day.now.hours ≡ Accepted tt }
     ensures { OnOk result (string_bytes out.new ≡ string_bytes out.old ++ published_of (day_of day.now) day.now.phase) }
 {
     match day.phase() {
         Phase::Open | Phase::Fixed | Phase::Post => Ok(()),
         Phase::Final => {
-            match push_final(
+            push_final(
                 out,
                 day.rows(),
                 day.blocks(),
@@ -37,21 +36,21 @@ fn push_day(out: &mut String, day: &Day) -> fmt::Result
                 day.marks(),
                 day.posts(),
                 day.posted(),
-            ) {
-                Ok(()) => Ok(()),
-                Err(_) => Err(fmt::Error),
-            }
+            )
         }
     }
 }
 
 // What follows the last answer.
-fn push_end(out: &mut String, fault: Option<Fault>, day: &Day) -> fmt::Result
+fn push_end(out: &mut String, fault: Option<Fault>, day: &Day) -> Result<(), Stop>
     requires { prices_refused day.now.hours ≡ Accepted tt }
     ensures { OnOk result (string_bytes out.new ≡ string_bytes out.old ++ end_text fault (day_of day.now)) }
 {
     match fault {
-        Some(fault) => push_fault(out, &fault),
+        Some(fault) => match push_fault(out, &fault) {
+            Ok(()) => Ok(()),
+            Err(_) => Err(Stop::Memory),
+        },
         None => push_day(out, day),
     }
 }

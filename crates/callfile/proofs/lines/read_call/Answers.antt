@@ -9,23 +9,23 @@ use Rattle.callfile.specs.Calls.{name_text, body}
 use Rattle.callfile.proofs.Described.{faithful_call, call_told}
 use Rattle.callfile.proofs.lines.read_call.Goals as goal
 
-pub returns-in-err-name : goal.returns-in-err-name
-returns-in-err-name c =
+pub returns-in_err-name : goal.returns-in_err-name
+returns-in_err-name c =
     let s = c.args.reader.now in
     record {
-      told = viewed_err move_of c.from-residual.result c.in-err-name.field-0.0 c.read-name.new.reader c.from-residual.ensures.1 ∙ call_told s _
-          (then_no name_text body s.at s _ c.in-err-name.ensures.told);
-      input = c.read-name.ensures.input;
+      told = viewed_err move_of c.from_residual.result c.in_err-name.field-0.0 c.read_name.new.reader c.from_residual.ensures.1 ∙ call_told s _
+          (then_no name_text body s.at s _ c.in_err-name.ensures.told);
+      input = c.read_name.ensures.input;
       faithful = faithful_call;
     }
 
 pub returns : goal.returns
 returns c =
     let s = c.args.reader.now in
-    let name = c.in-ok-name.name in
+    let name = c.in_ok-name.name in
     record {
-      told = sym (second name (told (viewed move_of c.read-body.result) c.read-body.new.reader)) ∙ call_told s _
-          (then_on name_text body s.at s c.read-name.new.reader name _ c.in-ok-name.ensures.told c.read-body.ensures.told);
-      input = c.read-body.ensures.input ∙ c.read-name.ensures.input;
+      told = sym (second name (told (viewed move_of c.read_body.result) c.read_body.new.reader)) ∙ call_told s _
+          (then_on name_text body s.at s c.read_name.new.reader name _ c.in_ok-name.ensures.told c.read_body.ensures.told);
+      input = c.read_body.ensures.input ∙ c.read_name.ensures.input;
       faithful = faithful_call;
     }

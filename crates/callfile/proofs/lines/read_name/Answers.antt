@@ -7,23 +7,23 @@ use Rattle.callfile.specs.Calls.{end_of}
 use Rattle.callfile.proofs.Endings.{ended_on, ended_no}
 use Rattle.callfile.proofs.lines.read_name.Goals as goal
 
-pub returns-in-err-name : goal.returns-in-err-name
-returns-in-err-name c =
+pub returns-in_err-name : goal.returns-in_err-name
+returns-in_err-name c =
     let n = c.next-first.ensures in
     record {
-      told = told_err c.from-residual.result c.in-err-name.field-0.0 c.next-first.new.self c.from-residual.ensures.1 ∙ ended_no end_of call_word (word_seen call_name all_calls) (looks_word call_name all_calls) c.args.line c.args.reader.now (seen c.next-first.result.token) c.next-first.result.place n.token n.place c.in-err-name.field-0.0 c.in-err-name.ensures;
+      told = told_err c.from_residual.result c.in_err-name.field-0.0 c.next-first.new.self c.from_residual.ensures.1 ∙ ended_no end_of call_word (word_seen call_name all_calls) (looks_word call_name all_calls) c.args.line c.args.reader.now (seen c.next-first.result.token) c.next-first.result.place n.token n.place c.in_err-name.field-0.0 c.in_err-name.ensures;
       input = n.input;
     }
 
-pub returns-in-err-close : goal.returns-in-err-close
-returns-in-err-close c =
+pub returns-in_err-close : goal.returns-in_err-close
+returns-in_err-close c =
     let n = c.next-first.ensures in
     let l = c.args.line in
     let t = c.next-first.new.self in
-    let f = c.in-err-close.field-0.0 in
+    let f = c.in_err-close.field-0.0 in
     record {
-      told = told_err c.from-residual-in-err-close.result f c.close.new.self c.from-residual-in-err-close.ensures.1 ∙ ended_on end_of call_word (word_seen call_name all_calls) (looks_word call_name all_calls) l c.args.reader.now (seen c.next-first.result.token) c.next-first.result.place n.token n.place t c.in-ok-name.name (refused f) c.in-ok-name.ensures n.at n.input
-          (c.in-err-close.ensures.told ∙ ap (λ b. closed b (tt {0}) l t.at (ahead t)) c.end-of.ensures);
+      told = told_err c.from_residual-in_err-close.result f c.close.new.self c.from_residual-in_err-close.ensures.1 ∙ ended_on end_of call_word (word_seen call_name all_calls) (looks_word call_name all_calls) l c.args.reader.now (seen c.next-first.result.token) c.next-first.result.place n.token n.place t c.in_ok-name.name (refused f) c.in_ok-name.ensures n.at n.input
+          (c.in_err-close.ensures.told ∙ ap (λ b. closed b (tt {0}) l t.at (ahead t)) c.end_of.ensures);
       input = c.close.ensures.input ∙ n.input;
     }
 
@@ -34,7 +34,7 @@ returns c =
     let t = c.next-first.new.self in
     let u = c.close.new.self in
     record {
-      told = ended_on end_of call_word (word_seen call_name all_calls) (looks_word call_name all_calls) l c.args.reader.now (seen c.next-first.result.token) c.next-first.result.place n.token n.place t c.in-ok-name.name (got (tt {0}) u.at (ahead u)) c.in-ok-name.ensures n.at n.input
-          (c.in-ok-close.ensures.told ∙ ap (λ b. closed b (tt {0}) l t.at (ahead t)) c.end-of.ensures);
+      told = ended_on end_of call_word (word_seen call_name all_calls) (looks_word call_name all_calls) l c.args.reader.now (seen c.next-first.result.token) c.next-first.result.place n.token n.place t c.in_ok-name.name (got (tt {0}) u.at (ahead u)) c.in_ok-name.ensures n.at n.input
+          (c.in_ok-close.ensures.told ∙ ap (λ b. closed b (tt {0}) l t.at (ahead t)) c.end_of.ensures);
       input = c.close.ensures.input ∙ n.input;
     }

@@ -24,74 +24,74 @@ g2 _ = then side_text g3
 abbrev g1 : ℕ → Format (ℕ × (Side × (ℕ × Portion)))
 g1 _ = then (item (number 1 24) 32) g2
 
-pub returns-in-err-member : goal.returns-in-err-member
-returns-in-err-member c =
+pub returns-in_err-member : goal.returns-in_err-member
+returns-in_err-member c =
     let l = c.args.line in
     let s0 = c.args.reader.now in
     record {
-      told = told_err c.from-residual.result c.in-err-member.field-0.0 c.number.new.self c.from-residual.ensures.1 ∙ dressed_told as_post post_parts post_items l s0 _
-          (then_no (item (number 1 999) 32) g1 l s0 _ c.in-err-member.ensures.told);
+      told = told_err c.from_residual.result c.in_err-member.field-0.0 c.number.new.self c.from_residual.ensures.1 ∙ dressed_told as_post post_parts post_items l s0 _
+          (then_no (item (number 1 999) 32) g1 l s0 _ c.in_err-member.ensures.told);
       input = c.number.ensures.input;
     }
 
-pub returns-in-err-hour : goal.returns-in-err-hour
-returns-in-err-hour c =
+pub returns-in_err-hour : goal.returns-in_err-hour
+returns-in_err-hour c =
     let l = c.args.line in
     let s0 = c.args.reader.now in
     let s1 = c.number.new.self in
     record {
-      told = told_err c.from-residual-in-err-hour.result c.in-err-hour.field-0.0 c.read-hour.new.reader c.from-residual-in-err-hour.ensures.1 ∙ dressed_told as_post post_parts post_items l s0 _
-          (then_on (item (number 1 999) 32) g1 l s0 s1 c.in-ok-member.member _ c.in-ok-member.ensures.told
-          (then_no (item (number 1 24) 32) g2 l s1 _ c.in-err-hour.ensures.told));
-      input = c.read-hour.ensures.input ∙ c.number.ensures.input;
+      told = told_err c.from_residual-in_err-hour.result c.in_err-hour.field-0.0 c.read_hour.new.reader c.from_residual-in_err-hour.ensures.1 ∙ dressed_told as_post post_parts post_items l s0 _
+          (then_on (item (number 1 999) 32) g1 l s0 s1 c.in_ok-member.member _ c.in_ok-member.ensures.told
+          (then_no (item (number 1 24) 32) g2 l s1 _ c.in_err-hour.ensures.told));
+      input = c.read_hour.ensures.input ∙ c.number.ensures.input;
     }
 
-pub returns-in-err-word : goal.returns-in-err-word
-returns-in-err-word c =
+pub returns-in_err-word : goal.returns-in_err-word
+returns-in_err-word c =
     let l = c.args.line in
     let s0 = c.args.reader.now in
     let s1 = c.number.new.self in
-    let s2 = c.read-hour.new.reader in
+    let s2 = c.read_hour.new.reader in
     record {
-      told = told_err c.from-residual-in-err-word.result c.in-err-word.field-0.0 c.word.new.self c.from-residual-in-err-word.ensures.1 ∙ dressed_told as_post post_parts post_items l s0 _
-          (then_on (item (number 1 999) 32) g1 l s0 s1 c.in-ok-member.member _ c.in-ok-member.ensures.told
-          (then_on (item (number 1 24) 32) g2 l s1 s2 c.in-ok-hour.hour _ c.in-ok-hour.ensures.told
-          (then_no side_text g3 l s2 _ (side_told l s2 _ c.in-err-word.ensures.told))));
-      input = c.word.ensures.input ∙ c.read-hour.ensures.input ∙ c.number.ensures.input;
+      told = told_err c.from_residual-in_err-word.result c.in_err-word.field-0.0 c.word.new.self c.from_residual-in_err-word.ensures.1 ∙ dressed_told as_post post_parts post_items l s0 _
+          (then_on (item (number 1 999) 32) g1 l s0 s1 c.in_ok-member.member _ c.in_ok-member.ensures.told
+          (then_on (item (number 1 24) 32) g2 l s1 s2 c.in_ok-hour.hour _ c.in_ok-hour.ensures.told
+          (then_no side_text g3 l s2 _ (side_told l s2 _ c.in_err-word.ensures.told))));
+      input = c.word.ensures.input ∙ c.read_hour.ensures.input ∙ c.number.ensures.input;
     }
 
-pub returns-in-err-volume : goal.returns-in-err-volume
-returns-in-err-volume c =
+pub returns-in_err-volume : goal.returns-in_err-volume
+returns-in_err-volume c =
     let l = c.args.line in
     let s0 = c.args.reader.now in
     let s1 = c.number.new.self in
-    let s2 = c.read-hour.new.reader in
+    let s2 = c.read_hour.new.reader in
     let s3 = c.word.new.self in
     record {
-      told = told_err c.from-residual-in-err-volume.result c.in-err-volume.field-0.0 c.number-2.new.self c.from-residual-in-err-volume.ensures.1 ∙ dressed_told as_post post_parts post_items l s0 _
-          (then_on (item (number 1 999) 32) g1 l s0 s1 c.in-ok-member.member _ c.in-ok-member.ensures.told
-          (then_on (item (number 1 24) 32) g2 l s1 s2 c.in-ok-hour.hour _ c.in-ok-hour.ensures.told
-          (then_on side_text g3 l s2 s3 c.in-ok-word.word.side _ (side_told l s2 _ c.in-ok-word.ensures.told)
-          (then_no (item (number 1 100000) 32) g4 l s3 _ c.in-err-volume.ensures.told))));
-      input = c.number-2.ensures.input ∙ c.word.ensures.input ∙ c.read-hour.ensures.input ∙ c.number.ensures.input;
+      told = told_err c.from_residual-in_err-volume.result c.in_err-volume.field-0.0 c.number-2.new.self c.from_residual-in_err-volume.ensures.1 ∙ dressed_told as_post post_parts post_items l s0 _
+          (then_on (item (number 1 999) 32) g1 l s0 s1 c.in_ok-member.member _ c.in_ok-member.ensures.told
+          (then_on (item (number 1 24) 32) g2 l s1 s2 c.in_ok-hour.hour _ c.in_ok-hour.ensures.told
+          (then_on side_text g3 l s2 s3 c.in_ok-word.word.side _ (side_told l s2 _ c.in_ok-word.ensures.told)
+          (then_no (item (number 1 100000) 32) g4 l s3 _ c.in_err-volume.ensures.told))));
+      input = c.number-2.ensures.input ∙ c.word.ensures.input ∙ c.read_hour.ensures.input ∙ c.number.ensures.input;
     }
 
-pub returns-in-err-size : goal.returns-in-err-size
-returns-in-err-size c =
+pub returns-in_err-size : goal.returns-in_err-size
+returns-in_err-size c =
     let l = c.args.line in
     let s0 = c.args.reader.now in
     let s1 = c.number.new.self in
-    let s2 = c.read-hour.new.reader in
+    let s2 = c.read_hour.new.reader in
     let s3 = c.word.new.self in
     let s4 = c.number-2.new.self in
     record {
-      told = told_err c.from-residual-in-err-size.result c.in-err-size.field-0.0 c.word-2.new.self c.from-residual-in-err-size.ensures.1 ∙ dressed_told as_post post_parts post_items l s0 _
-          (then_on (item (number 1 999) 32) g1 l s0 s1 c.in-ok-member.member _ c.in-ok-member.ensures.told
-          (then_on (item (number 1 24) 32) g2 l s1 s2 c.in-ok-hour.hour _ c.in-ok-hour.ensures.told
-          (then_on side_text g3 l s2 s3 c.in-ok-word.word.side _ (side_told l s2 _ c.in-ok-word.ensures.told)
-          (then_on (item (number 1 100000) 32) g4 l s3 s4 c.in-ok-volume.volume _ c.in-ok-volume.ensures.told
-          (dressed_told (λ w. w.portion) word_of (item portion_word 10) l s4 _ c.in-err-size.ensures.told)))));
-      input = c.word-2.ensures.input ∙ c.number-2.ensures.input ∙ c.word.ensures.input ∙ c.read-hour.ensures.input ∙ c.number.ensures.input;
+      told = told_err c.from_residual-in_err-size.result c.in_err-size.field-0.0 c.word-2.new.self c.from_residual-in_err-size.ensures.1 ∙ dressed_told as_post post_parts post_items l s0 _
+          (then_on (item (number 1 999) 32) g1 l s0 s1 c.in_ok-member.member _ c.in_ok-member.ensures.told
+          (then_on (item (number 1 24) 32) g2 l s1 s2 c.in_ok-hour.hour _ c.in_ok-hour.ensures.told
+          (then_on side_text g3 l s2 s3 c.in_ok-word.word.side _ (side_told l s2 _ c.in_ok-word.ensures.told)
+          (then_on (item (number 1 100000) 32) g4 l s3 s4 c.in_ok-volume.volume _ c.in_ok-volume.ensures.told
+          (dressed_told (λ w. w.portion) word_of (item portion_word 10) l s4 _ c.in_err-size.ensures.told)))));
+      input = c.word-2.ensures.input ∙ c.number-2.ensures.input ∙ c.word.ensures.input ∙ c.read_hour.ensures.input ∙ c.number.ensures.input;
     }
 
 pub returns : goal.returns
@@ -99,15 +99,15 @@ returns c =
     let l = c.args.line in
     let s0 = c.args.reader.now in
     let s1 = c.number.new.self in
-    let s2 = c.read-hour.new.reader in
+    let s2 = c.read_hour.new.reader in
     let s3 = c.word.new.self in
     let s4 = c.number-2.new.self in
     record {
       told = dressed_told as_post post_parts post_items l s0 _
-          (then_on (item (number 1 999) 32) g1 l s0 s1 c.in-ok-member.member _ c.in-ok-member.ensures.told
-          (then_on (item (number 1 24) 32) g2 l s1 s2 c.in-ok-hour.hour _ c.in-ok-hour.ensures.told
-          (then_on side_text g3 l s2 s3 c.in-ok-word.word.side _ (side_told l s2 _ c.in-ok-word.ensures.told)
-          (then_on (item (number 1 100000) 32) g4 l s3 s4 c.in-ok-volume.volume _ c.in-ok-volume.ensures.told
-          (dressed_told (λ w. w.portion) word_of (item portion_word 10) l s4 _ c.in-ok-size.ensures.told)))));
-      input = c.word-2.ensures.input ∙ c.number-2.ensures.input ∙ c.word.ensures.input ∙ c.read-hour.ensures.input ∙ c.number.ensures.input;
+          (then_on (item (number 1 999) 32) g1 l s0 s1 c.in_ok-member.member _ c.in_ok-member.ensures.told
+          (then_on (item (number 1 24) 32) g2 l s1 s2 c.in_ok-hour.hour _ c.in_ok-hour.ensures.told
+          (then_on side_text g3 l s2 s3 c.in_ok-word.word.side _ (side_told l s2 _ c.in_ok-word.ensures.told)
+          (then_on (item (number 1 100000) 32) g4 l s3 s4 c.in_ok-volume.volume _ c.in_ok-volume.ensures.told
+          (dressed_told (λ w. w.portion) word_of (item portion_word 10) l s4 _ c.in_ok-size.ensures.told)))));
+      input = c.word-2.ensures.input ∙ c.number-2.ensures.input ∙ c.word.ensures.input ∙ c.read_hour.ensures.input ∙ c.number.ensures.input;
     }

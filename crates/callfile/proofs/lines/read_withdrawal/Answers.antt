@@ -11,23 +11,23 @@ use Rattle.callfile.proofs.lines.read_withdrawal.Goals as goal
 abbrev g1 : ℕ → Format ℕ
 g1 _ = item (number 1 999) 10
 
-pub returns-in-err-row : goal.returns-in-err-row
-returns-in-err-row c =
+pub returns-in_err-row : goal.returns-in_err-row
+returns-in_err-row c =
     let l = c.args.line in
     let s = c.args.reader.now in
     record {
-      told = viewed_err move_of c.from-residual.result c.in-err-row.field-0.0 c.number.new.self c.from-residual.ensures.1 ∙ recast_told (λ p. withdrawing p.0 p.1) row_and_member withdraw_items l s _
-          (then_no (item (number 0 255) 32) g1 l s _ c.in-err-row.ensures.told);
+      told = viewed_err move_of c.from_residual.result c.in_err-row.field-0.0 c.number.new.self c.from_residual.ensures.1 ∙ recast_told (λ p. withdrawing p.0 p.1) row_and_member withdraw_items l s _
+          (then_no (item (number 0 255) 32) g1 l s _ c.in_err-row.ensures.told);
       input = c.number.ensures.input;
     }
 
-pub returns-in-err-member : goal.returns-in-err-member
-returns-in-err-member c =
+pub returns-in_err-member : goal.returns-in_err-member
+returns-in_err-member c =
     let l = c.args.line in
     let s = c.args.reader.now in
     record {
-      told = viewed_err move_of c.from-residual-in-err-member.result c.in-err-member.field-0.0 c.number-2.new.self c.from-residual-in-err-member.ensures.1 ∙ recast_told (λ p. withdrawing p.0 p.1) row_and_member withdraw_items l s _
-          (then_on (item (number 0 255) 32) g1 l s c.number.new.self c.in-ok-row.row _ c.in-ok-row.ensures.told c.in-err-member.ensures.told);
+      told = viewed_err move_of c.from_residual-in_err-member.result c.in_err-member.field-0.0 c.number-2.new.self c.from_residual-in_err-member.ensures.1 ∙ recast_told (λ p. withdrawing p.0 p.1) row_and_member withdraw_items l s _
+          (then_on (item (number 0 255) 32) g1 l s c.number.new.self c.in_ok-row.row _ c.in_ok-row.ensures.told c.in_err-member.ensures.told);
       input = c.number-2.ensures.input ∙ c.number.ensures.input;
     }
 
@@ -37,6 +37,6 @@ returns c =
     let s = c.args.reader.now in
     record {
       told = recast_told (λ p. withdrawing p.0 p.1) row_and_member withdraw_items l s _
-          (then_on (item (number 0 255) 32) g1 l s c.number.new.self c.in-ok-row.row _ c.in-ok-row.ensures.told c.in-ok-member.ensures.told);
+          (then_on (item (number 0 255) 32) g1 l s c.number.new.self c.in_ok-row.row _ c.in_ok-row.ensures.told c.in_ok-member.ensures.told);
       input = c.number-2.ensures.input ∙ c.number.ensures.input;
     }

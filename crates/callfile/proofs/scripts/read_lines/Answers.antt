@@ -15,13 +15,13 @@ loop-i-preserved c =
     let n = c.args.n in
     let i = c.loop-i.i in
     let m : n - i ≡ suc (n - (i + 1)) = omega (arith, c.loop-i-test.true) in
-    let ls = chosen _ _ _ _ c.push.ensures.items (ap is_ok c.in-ok-push.was) in
-    let cs = chosen _ _ _ _ c.push-in-loop-i.ensures.items (ap is_ok c.in-ok-push-2.was) in
-    sofar_on (vec_items c.loop-i.lines) (vec_items c.loop-i.calls) (n - i) c.loop-i.reader _ c.loop-i.invariant (n - (i + 1)) m c.read-call.new.reader _ _ _ c.in-Ok.ensures.told ls cs
+    let ls = chosen _ _ _ _ c.push.ensures.items (ap is_ok c.in_ok-push.was) in
+    let cs = chosen _ _ _ _ c.push-in-loop-i.ensures.items (ap is_ok c.in_ok-push-2.was) in
+    sofar_on (vec_items c.loop-i.lines) (vec_items c.loop-i.calls) (n - i) c.loop-i.reader _ c.loop-i.invariant (n - (i + 1)) m c.read_call.new.reader _ _ _ c.in-Ok.ensures.told ls cs
 
 pub returns : goal.returns
 returns c =
     let n = c.args.n in
     let i = c.loop-i.i in
     let z : n - i ≡ 0 = omega (arith, c.loop-i-test.false) in
-    sofar_end _ _ (sofar_done (vec_items c.loop-i.lines) (vec_items c.loop-i.calls) (n - i) c.loop-i.reader _ c.loop-i.invariant c.past-end.result c.past-end.ensures z)
+    sofar_end _ _ (sofar_done (vec_items c.loop-i.lines) (vec_items c.loop-i.calls) (n - i) c.loop-i.reader _ c.loop-i.invariant c.past_end.result c.past_end.ensures z)

@@ -1,4 +1,4 @@
-use Rattle.std.proofs.Common.{◌≡◌, length, refl, ap, ◌∙◌, rules}
+use Rattle.std.proofs.Common.{length, ap, ◌∙◌, rules}
 use Rattle.book.specs.Drafted.{asked_of, draft_verdict}
 use Rattle.book.specs.Entering.{change_refusals, change_answer}
 use Rattle.book.specs.Views.{ticket_of, places}

@@ -1,6 +1,5 @@
-use Rattle.std.proofs.Common.{◌≡◌, Ok, Err, sym, ap, ◌∙◌}
+use Rattle.std.proofs.Common.{sym, ◌∙◌}
 use Rattle.book.specs.Drafted.{asked_of, draft_verdict}
-use Rattle.book.specs.Views.{ticket_of}
 use Rattle.day.proofs.Drafting.{enter_judged, change_judged, granting_ok, granting_err}
 use Rattle.day.proofs.judging.judge_draft.Goals as goal
 

@@ -1,4 +1,4 @@
-use Rattle.std.proofs.Common.{◌≡◌, replicate, ap, ◌∙◌}
+use Rattle.std.proofs.Common.{replicate, ap, ◌∙◌}
 use Rattle.clearing.specs.Results.{no_result}
 use Rattle.clearing.specs.declared.marks.Mark.TheVariants.{Kept}
 use Rattle.day.specs.States.{no_results, no_marks}

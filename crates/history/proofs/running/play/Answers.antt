@@ -1,11 +1,10 @@
-use Rattle.std.proofs.Common.{◌≡◌, ◌∙◌}
+use Rattle.std.proofs.Common.{◌∙◌}
 use Rattle.book.specs.declared.drafts.Terms.TheVariants.{Market}
 use Rattle.curves.specs.declared.sides.Side.TheVariants.{Buy}
 use Rattle.calls.specs.declared.calls.Call.{Call}
 use Rattle.calls.specs.declared.calls.Call.TheVariants.{Enter}
 use Rattle.day.specs.Views.{day_of}
-use Rattle.history.specs.Runs.{IsTold}
-use Rattle.history.proofs.Playing.{Playing, play_none, play_more, play_all}
+use Rattle.history.proofs.Playing.{play_none, play_more, play_all}
 use Rattle.history.proofs.running.play.Goals as goal
 
 -- what an array of calls reads past its end

@@ -6,7 +6,7 @@ use Rattle.posting.proofs.sums.sum_in.Goals as goal
 pub loop-fill-preserved : goal.loop-fill-preserved
 loop-fill-preserved c =
     let one = filled_step c.args.hour c.args.fills.now c.loop-fill.fill-index no_fill c.loop-fill-test.true in
-    (omega (arith, one, c.loop-fill.invariant.0, c.taken-by-sum.ensures.is), omega (arith, c.loop-fill.invariant.1, c.taken-by-sum.ensures.few))
+    (omega (arith, one, c.loop-fill.invariant.0, c.taken_by-sum.ensures.is), omega (arith, c.loop-fill.invariant.1, c.taken_by-sum.ensures.few))
 
 pub returns : goal.returns
 returns c =

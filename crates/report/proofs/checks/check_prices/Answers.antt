@@ -4,11 +4,11 @@ use Rattle.report.specs.Final.{prices_refused}
 use Rattle.report.proofs.Checked.{price_stops, price_passes}
 use Rattle.report.proofs.checks.check_prices.Goals as goal
 
-pub returns-then-off-ladder : goal.returns-then-off-ladder
-returns-then-off-ladder c = ap Err c.without-text.ensures ∙ sym (price_stops c.args.hours.now c.loop-result.result_index _ c.loop-result-test.true (sym c.if-off-ladder.ensures)) ∙ c.loop-result.invariant
+pub returns-then-off_ladder : goal.returns-then-off_ladder
+returns-then-off_ladder c = ap Err c.without_text.ensures ∙ sym (price_stops c.args.hours.now c.loop-result.result-index _ c.loop-result-test.true (sym c.if-off_ladder.ensures)) ∙ c.loop-result.invariant
 
 pub loop-result-preserved : goal.loop-result-preserved
-loop-result-preserved c = sym (price_passes c.args.hours.now c.loop-result.result_index _ c.loop-result-test.true (sym c.if-off-ladder.ensures)) ∙ c.loop-result.invariant
+loop-result-preserved c = sym (price_passes c.args.hours.now c.loop-result.result-index _ c.loop-result-test.true (sym c.if-off_ladder.ensures)) ∙ c.loop-result.invariant
 
 pub returns : goal.returns
-returns c = sym (at_drop_all prices_refused c.args.hours.now c.loop-result.result_index c.loop-result-test.false) ∙ c.loop-result.invariant
+returns c = sym (at_drop_all prices_refused c.args.hours.now c.loop-result.result-index c.loop-result-test.false) ∙ c.loop-result.invariant

@@ -8,4 +8,4 @@ pub unwrap-requires : goal.unwrap-requires
 unwrap-requires c =
     let hours : c.unwrap-set.result ≡ get_or (sets_of c.args.blocks.now) c.args.block 0 = search rules in
     let proper : bad_hours c.unwrap-set.result ≡ false = ap bad_hours hours ∙ proper_at (sets_of c.args.blocks.now) c.args.block c.args.blocks.now.proper c.requires.0 in
-    ap is_ok (c.block-price.ensures ∙ price_granted c.unwrap-set.result c.args.hours.now c.requires.1 proper)
+    ap is_ok (c.block_price.ensures ∙ price_granted c.unwrap-set.result c.args.hours.now c.requires.1 proper)

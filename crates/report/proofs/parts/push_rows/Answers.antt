@@ -8,7 +8,7 @@ use Rattle.report.proofs.parts.push_rows.Goals as goal
 
 pub loop-row-preserved : goal.loop-row-preserved
 unfolding places
-loop-row-preserved c = one_more (row_text c.args.shares.now) (places c.args.rows.now) c.loop-row.row vacant (string_bytes c.loop-row.out) (string_bytes c.push-row.new.out) _ (omega (arith, length-map c.args.rows.now place_of)) c.loop-row.invariant c.in-ok-push-row.ensures
+loop-row-preserved c = one_more (row_text c.args.shares.now) (places c.args.rows.now) c.loop-row.row vacant (string_bytes c.loop-row.out) (string_bytes c.push_row.new.out) _ (omega (arith, length-map c.args.rows.now place_of)) c.loop-row.invariant c.in_ok-push_row.ensures
 
 pub returns : goal.returns
 unfolding places

@@ -19,11 +19,11 @@ pub unwrap-requires : goal.unwrap-requires
 unwrap-requires c =
     let within : bad_hour (c.args.hour + 1) ≡ false = search rules in
     let priced = priced_at c.args.hours.now c.args.hour unread c.requires.priced (omega arith) in
-    ap is_ok (c.hour-shares.ensures.answer ∙ shares_granted (length c.args.rows.now) (length c.args.marks.now) 256 (c.args.hour + 1) (get_or c.args.hours.now c.args.hour unread).price (omega arith) (omega arith) refl within priced)
+    ap is_ok (c.hour_shares.ensures.answer ∙ shares_granted (length c.args.rows.now) (length c.args.marks.now) 256 (c.args.hour + 1) (get_or c.args.hours.now c.args.hour unread).price (omega arith) (omega arith) refl within priced)
 
 pub returns : goal.returns
 unfolding shares_in
 returns c =
     let hour : c.args.hour + 1 - 1 ≡ c.args.hour = omega arith in
     let result = get_or_default c.args.hours.now c.args.hour unread no_result (omega arith) in
-    MatchResult-at_ok _ _ c.unwrap.result c.unwrap.ensures c.hour-shares.ensures.each ∙ (λ j. hour_shares (places c.args.rows.now) (sets_of c.args.blocks.now) c.args.marks.now (hour j) (result j) (c.filled-filled.ensures j))
+    MatchResult-at_ok _ _ c.unwrap.result c.unwrap.ensures c.hour_shares.ensures.each ∙ (λ j. hour_shares (places c.args.rows.now) (sets_of c.args.blocks.now) c.args.marks.now (hour j) (result j) (c.filled-filled.ensures j))

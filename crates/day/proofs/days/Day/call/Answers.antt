@@ -6,7 +6,7 @@ use Rattle.day.proofs.days.Day.call.Goals as goal
 
 pub returns-in-Final-Enter : goal.returns-in-Final-Enter
 returns-in-Final-Enter c = record {
-  gives = final_refuses (day_of c.args.self.now) (move_of c.args.call) c.out-of-phase-in-Final-Enter.result c.in-Final-Enter.is-0 c.out-of-phase-in-Final-Enter.ensures;
+  gives = final_refuses (day_of c.args.self.now) (move_of c.args.call) c.out_of_phase-in-Final-Enter.result c.in-Final-Enter.is-0 c.out_of_phase-in-Final-Enter.ensures;
   leaves = search rules;
   kept = search rules;
 }
