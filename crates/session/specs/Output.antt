@@ -1,5 +1,5 @@
 -- What the program prints for its input: the answers to the calls, and what is published of a finished day.
-use Rattle.std.specs.Prelude.{ℕ, cond, List, [], ◌∷◌, ◌++◌, map, length, Some, None, Option, Result, nat_lt}
+use Rattle.std.specs.Prelude.{ℕ, cond, List, [], ◌++◌, map, length, Some, None, Option, Result, nat_lt}
 use Rattle.faults.specs.declared.fault.Fault.{Fault}
 use Rattle.faults.specs.Answers.{wrong_length}
 use Rattle.text.specs.Format.{Outcome, got, refused}
@@ -11,7 +11,7 @@ use Rattle.report.specs.Final.{final_text}
 use Rattle.day.specs.declared.phases.Phase.{Phase}
 use Rattle.day.specs.declared.phases.Phase.TheVariants.{Open, Fixed, Post, Final}
 use Rattle.day.specs.States.{State}
-use Rattle.history.specs.Events.{Event, recorded, loaded}
+use Rattle.history.specs.Events.{recorded, loaded}
 use Rattle.history.specs.Told.{state_told, answers_told}
 
 -- a day that is final is published
