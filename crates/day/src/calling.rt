@@ -81,6 +81,7 @@ impl Day {
         }
     }
 
+    #[tactic(auto, using(crate::proofs::Valued::ticks_valued))]
     fn fix(&mut self) -> Result<u32, Fault>
         requires { self.old.phase ≡ InOpen }
         ensures gives { result ≡ answer (day_of self.old) (move_of Fix) }

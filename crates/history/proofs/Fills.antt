@@ -1,6 +1,6 @@
 -- Post fills stay within the surplus and stand on the side opposite to it.
 use Rattle.std.proofs.Common.{◌≡◌, ℕ, ◌+◌, ◌-◌, ◌≤◌, min, Bool, true, false, cond, ◌&&◌, ◌||◌, eqb, List, [], ◌∷◌, ◌++◌, Ok, Err, Result, sym, refl, ap, ◌∙◌, subst, append-nil, add_assoc, arith}
-use Rattle.std.specs.List.{AllByRecursion as All}
+use Rattle.std.specs.List.{AllByRecursion}
 use Rattle.std.proofs.ByRecursion.{All-push}
 use Rattle.std.proofs.lemmas.Bool.{eqb-true}
 use Rattle.faults.specs.declared.fault.Fault.{Fault}
@@ -44,18 +44,18 @@ or_parts false u e = refl
 module _ (refs sets : List ℕ) where
   pub record Fitting (h : List Event) : Type 0 where
     pub within : (hour : ℕ) → filled_in hour (posts_told h) ≤ (result_at (results_told refs sets h) (hour - 1)).surplus
-    pub opposite : All (Facing (results_told refs sets h)) (posts_told h)
+    pub opposite : AllByRecursion (Facing (results_told refs sets h)) (posts_told h)
 
   -- a list without fills, and one that stays
-  none_fit : (rs : List HourResult) (fs : List Fill) → fs ≡ [] → ((hour : ℕ) → filled_in hour fs ≤ (result_at rs (hour - 1)).surplus) × All (Facing rs) fs
+  none_fit : (rs : List HourResult) (fs : List Fill) → fs ≡ [] → ((hour : ℕ) → filled_in hour fs ≤ (result_at rs (hour - 1)).surplus) × AllByRecursion (Facing rs) fs
   none_fit rs fs e =
-      (λ hour. omega (arith, ap (filled_in hour) e, none_in hour), subst (All (Facing rs)) (sym e) tt)
+      (λ hour. omega (arith, ap (filled_in hour) e, none_in hour), subst (AllByRecursion (Facing rs)) (sym e) tt)
 
-  same_fit : (rs : List HourResult) (fs gs : List Fill) → fs ≡ gs → ((hour : ℕ) → filled_in hour fs ≤ (result_at rs (hour - 1)).surplus) → All (Facing rs) fs → ((hour : ℕ) → filled_in hour gs ≤ (result_at rs (hour - 1)).surplus) × All (Facing rs) gs
-  same_fit rs fs gs e w o = (λ hour. omega (arith, w hour, ap (filled_in hour) e), subst (All (Facing rs)) e o)
+  same_fit : (rs : List HourResult) (fs gs : List Fill) → fs ≡ gs → ((hour : ℕ) → filled_in hour fs ≤ (result_at rs (hour - 1)).surplus) → AllByRecursion (Facing rs) fs → ((hour : ℕ) → filled_in hour gs ≤ (result_at rs (hour - 1)).surplus) × AllByRecursion (Facing rs) gs
+  same_fit rs fs gs e w o = (λ hour. omega (arith, w hour, ap (filled_in hour) e), subst (AllByRecursion (Facing rs)) e o)
 
   abbrev Fits : List HourResult → List Fill → Type 0
-  Fits rs fs = ((hour : ℕ) → filled_in hour fs ≤ (result_at rs (hour - 1)).surplus) × All (Facing rs) fs
+  Fits rs fs = ((hour : ℕ) → filled_in hour fs ≤ (result_at rs (hour - 1)).surplus) × AllByRecursion (Facing rs) fs
 
   fitting : (h : List Event) → Fits (results_told refs sets h) (posts_told h) → Fitting h
   fitting h p = record { within = p.0; opposite = p.1 }
@@ -124,12 +124,12 @@ facing_at rs f h o e =
     let back : f.hour - 1 ≡ h = omega (arith, eqb-true f.hour (h + 1) e) in
     ap (λ k. same_side f.side (result_at rs k).side) (sym back) ∙ o
 
-pub filled_on_side : (rs : List HourResult) (h : ℕ) (side : Side) (fs : List Fill) → All (Facing rs) fs → same_side side (result_at rs h).side ≡ true → filled_on side (h + 1) fs ≡ 0
+pub filled_on_side : (rs : List HourResult) (h : ℕ) (side : Side) (fs : List Fill) → AllByRecursion (Facing rs) fs → same_side side (result_at rs h).side ≡ true → filled_on side (h + 1) fs ≡ 0
 unfolding filled_on
 filled_on_side rs h side [] a e = refl
 filled_on_side rs h side (f ∷ fs) a e = omega (arith, on_cond (eqb f.hour (h + 1)) f.side (result_at rs h).side side f.volume (facing_at rs f h a.0) e, filled_on_side rs h side fs a.1 e)
 
-pub filled_off : (rs : List HourResult) (h : ℕ) (side : Side) (fs : List Fill) → All (Facing rs) fs → same_side side (result_at rs h).side ≡ false → filled_on side (h + 1) fs ≡ filled_in (h + 1) fs
+pub filled_off : (rs : List HourResult) (h : ℕ) (side : Side) (fs : List Fill) → AllByRecursion (Facing rs) fs → same_side side (result_at rs h).side ≡ false → filled_on side (h + 1) fs ≡ filled_in (h + 1) fs
 unfolding filled_on filled_in
 filled_off rs h side [] a e = refl
 filled_off rs h side (f ∷ fs) a e = omega (arith, off_cond (eqb f.hour (h + 1)) f.side (result_at rs h).side side f.volume (facing_at rs f h a.0) e, filled_off rs h side fs a.1 e)

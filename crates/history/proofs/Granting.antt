@@ -1,6 +1,6 @@
 -- A call that was granted: no refusal's condition held, and the answer is its value.
 use Rattle.std.proofs.Common.{◌≡◌, ℕ, ◌<◌, Bool, true, false, cond, not, ◌||◌, List, [], ◌∷◌, length, Ok, Err, Result, sym, refl, arith}
-use Rattle.std.specs.List.{AllByRecursion as All}
+use Rattle.std.specs.List.{AllByRecursion}
 use Rattle.std.proofs.lemmas.Bool.Decides.{nat_tests}
 use Rattle.faults.specs.declared.fault.Fault.{Fault}
 use Rattle.faults.specs.Answers.{out_of_range}
@@ -19,7 +19,7 @@ decide_at : {A : Type 0} (t : Bool) (g : Fault) (y : Result A Fault) (v : A) →
 decide_at true g y v e = never e
 decide_at false g y v e = (refl, e)
 
-decide_ok : (cs : List Condition) (x v : ℕ) → Ok v ≡ decide cs x → All (λ c. c.holds ≡ false) cs × (v ≡ x)
+decide_ok : (cs : List Condition) (x v : ℕ) → Ok v ≡ decide cs x → AllByRecursion (λ c. c.holds ≡ false) cs × (v ≡ x)
 decide_ok [] x v e = (tt, cc)
 decide_ok (c ∷ cs) x v e =
     let p = decide_at c.holds (fault c.refusal 0) (decide cs x) v e in
@@ -37,7 +37,7 @@ not-false false e = let z : ◌≡◌ {A = ℕ} 0 1 = cc in absurd (omega arith)
 pub record Grants (d : State) (m : Move) (v : ℕ) : Type 0 where
   pub alone : judged (length d.sets) m ≡ Ok tt
   pub offered : offers d.phase m ≡ true
-  pub further : All (λ c. c.holds ≡ false) (further d m)
+  pub further : AllByRecursion (λ c. c.holds ≡ false) (further d m)
   pub value : v ≡ value d m
 
 pub grants : (d : State) (m : Move) (v : ℕ) → Ok v ≡ answer d m → Grants d m v

@@ -1,6 +1,6 @@
 -- Results, marks and the post list by the phase: zero while open, cleared from a fix on, and no post before a confirm.
 use Rattle.std.proofs.Common.{◌≡◌, ℕ, Bool, true, false, List, [], ◌∷◌, ◌++◌, Ok, Err, Result, sym, refl, ap, ◌∙◌, subst, append-nil, arith}
-use Rattle.std.specs.List.{AllByRecursion as All}
+use Rattle.std.specs.List.{AllByRecursion}
 use Rattle.faults.specs.declared.fault.Fault.{Fault}
 use Rattle.calls.specs.Moves.{Move, entering, changing, withdrawing, fixing, recalling, confirming, posting, finishing, overfull}
 use Rattle.clearing.specs.Clearing.{clearing_of}
@@ -123,7 +123,7 @@ module _ (refs sets : List ℕ) where
   fixed_stays earlier m (Err f) g e = no_way (sym g)
   fixed_stays earlier m (Ok v) g e = subst (λ x. Stays earlier (event x (Ok v) ∷ earlier)) (sym e) (record { orders = sym (table_same earlier (event fixing (Ok v)) (λ k. refl)); results = refl; marks = refl; closed = refl })
 
-  pub stays_told : (later : List Event) (e : Event) (earlier : List Event) → told (later ++ (e ∷ earlier)) → All (λ x. recalls x ≡ false) later → is_granted e ≡ true → e.move ≡ fixing → Stays earlier (later ++ (e ∷ earlier))
+  pub stays_told : (later : List Event) (e : Event) (earlier : List Event) → told (later ++ (e ∷ earlier)) → AllByRecursion (λ x. recalls x ≡ false) later → is_granted e ≡ true → e.move ≡ fixing → Stays earlier (later ++ (e ∷ earlier))
   stays_told [] e earlier a n g f = fixed_stays earlier e.move e.answer g f
   stays_told (x ∷ later) e earlier a n g f = step_stays earlier (later ++ (e ∷ earlier)) x.move x.answer a.0 n.0 (stays_told later e earlier a.1 n.1 g f)
 
@@ -132,7 +132,7 @@ module _ (refs sets : List ℕ) where
   rounds_of_fix earlier m (Err f) e g k = no_way (sym g)
   rounds_of_fix earlier m (Ok v) e g k = ap Ok (grants (state_told refs sets earlier) fixing v (e ∙ ap (answer (state_told refs sets earlier)) k)).value
 
-  pub since_fix_told : (later : List Event) (e : Event) (earlier : List Event) → told (later ++ (e ∷ earlier)) → All (λ x. recalls x ≡ false) later → is_granted e ≡ true → e.move ≡ fixing
+  pub since_fix_told : (later : List Event) (e : Event) (earlier : List Event) → told (later ++ (e ∷ earlier)) → AllByRecursion (λ x. recalls x ≡ false) later → is_granted e ≡ true → e.move ≡ fixing
       → SinceFix refs sets earlier e.answer (state_told refs sets (later ++ (e ∷ earlier)))
   since_fix_told later e earlier a n g f =
       let s = stays_told later e earlier a n g f in

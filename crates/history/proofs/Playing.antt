@@ -1,7 +1,7 @@
 -- Calls one after another: what the history of the first of them tells.
 use Rattle.std.proofs.Common.{◌≡◌, ℕ, ◌+◌, ◌-◌, ◌<◌, ◌≤◌, List, [], ◌∷◌, ◌++◌, length, get_or, take, set, Result, sym, refl, ap, ◌∙◌, subst, inl, inr, arith, length-take}
 use lib.Seq.{take-set-le}
-use Rattle.std.specs.List.{AllByRecursion as All}
+use Rattle.std.specs.List.{AllByRecursion}
 use Rattle.std.proofs.lemmas.List.{take_more, take_more_set, take_all, length-map, get_or-map}
 use Rattle.std.proofs.lemmas.Bool.Decides.{leb_tells}
 use Rattle.faults.specs.declared.fault.Fault.{Fault}
@@ -67,7 +67,7 @@ day_law d h refs sets whole is a =
     (at (λ s. Stamped s.places) (stamped_told refs sets h a))
     (at (λ s. blocks_held s.places ≤ 32) (ordered_told refs sets h a).few)
     (at (λ s. (hour : ℕ) → filled_in hour s.posts ≤ (result_at s.results (hour - 1)).surplus) (fits_told refs sets h a).within)
-    (at (λ s. All (Facing s.results) s.posts) (fits_told refs sets h a).opposite)))
+    (at (λ s. AllByRecursion (Facing s.results) s.posts) (fits_told refs sets h a).opposite)))
 
 -- answers that the history tells are a function of the calls
 answered_tail : (refs sets : List ℕ) (ms : List Move) (rs : List (Result ℕ Fault)) (h : List Event) → Answered refs sets (recorded ms rs h) → Answered refs sets h

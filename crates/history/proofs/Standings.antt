@@ -1,6 +1,6 @@
 -- Wherever prices stand: best price, blocks, priority and balance of a day with the rows that it holds.
 use Rattle.std.proofs.Common.{◌≡◌, ℕ, ◌+◌, ◌-◌, ◌<◌, ◌≤◌, Bool, true, false, cond, List, length, sum, sym, refl, ap, ◌∙◌, subst, arith}
-use Rattle.std.specs.List.{AllByRecursion as All}
+use Rattle.std.specs.List.{AllByRecursion}
 use Rattle.book.specs.Bids.{Place}
 use Rattle.book.specs.Places.{blocks_held}
 use Rattle.book.specs.Shown.{same_side}
@@ -49,7 +49,7 @@ module _ (p : Phase) (o : Opening) (rows : List Row) (rs : List HourResult) (ms 
 
   pub standing : length rows ≡ 256 → length o.references ≡ 24 → rs ≡ (clearing_in day).results → ms ≡ (clearing_in day).marks
       → Stamped (places rows) → blocks_held (places rows) ≤ 32
-      → ((hour : ℕ) → filled_in hour fs ≤ (result_at rs (hour - 1)).surplus) → All (Facing rs) fs → Standing day
+      → ((hour : ℕ) → filled_in hour fs ≤ (result_at rs (hour - 1)).surplus) → AllByRecursion (Facing rs) fs → Standing day
   unfolding ticks tick_values
   standing long refs is marks apart few within opposite =
       let ps = places rows in

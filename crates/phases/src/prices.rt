@@ -23,6 +23,7 @@ use faults::fault::{Fault, Refusal};
 
 impl Open {
     // Clears the day's orders into results and marks. Answers the number of rounds.
+    #[tactic(auto, using(day::proofs::Valued::ticks_valued))]
     pub fn fix(
         self,
         rows: &[Row],
