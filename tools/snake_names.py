@@ -92,22 +92,6 @@ def declared():
     return found
 
 
-def kit_names():
-    """Names that the kit's library declares, which an import here may mean."""
-    names = set()
-    kit = "/opt/rattle/rattle"
-    for folder, dirs, entries in os.walk(kit):
-        dirs[:] = [d for d in dirs if d not in ("examples", "docs")]
-        for name in entries:
-            if name.endswith(".antt"):
-                with open(os.path.join(folder, name), encoding="utf-8", errors="replace") as f:
-                    for line in f:
-                        m = SIGNED.match(line)
-                        if m:
-                            names.update(m[1].split())
-    return names
-
-
 def imported_from_kit():
     """Names that files here import from a library that is not of the repository."""
     own = {c for c in os.listdir("crates")}

@@ -31,12 +31,18 @@ fn play(day: &mut Day, calls: &[Call], answers: &mut [Result<u32, Fault>])
     }
 }
 
+fn as_many(answers: &[Result<u32, Fault>], calls: &[Call]) -> bool
+    ensures { result ≡ (length answers.now == length calls.now) }
+{
+    answers.len() == calls.len()
+}
+
 // Opens the day that a text begins with, makes the calls in turn and writes the answer to each: the day that they lead to,
 // or why the load is refused. As many answers as calls are lent, else nothing is done.
 pub fn run(text: &[u8], calls: &[Call], answers: &mut [Result<u32, Fault>]) -> Result<Day, Fault>
     ensures { RanIf (length answers.old == length calls.now) (day_text.read 0 0 text.now) (moves calls.now) answers.old answers.new (viewed day_of result) }
 {
-    if answers.len() != calls.len() {
+    if !as_many(answers, calls) {
         return Err(Refusal::WrongLength.without_text());
     }
     let mut reader = Reader::new(text);
