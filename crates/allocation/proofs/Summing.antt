@@ -1,7 +1,7 @@
 -- Sums and maps over lists, and the loops that make them.
-use Rattle.std.proofs.Common.{◌≡◌, ℕ, zero, suc, ◌+◌, ◌-◌, ◌<◌, ◌≤◌, Bool, true, false, cond, List, [], ◌∷◌, map, length, get_or, take, set, sum_by, filter, refl, ap, arith}
+use Rattle.std.proofs.Common.{◌≡◌, ℕ, zero, suc, ◌+◌, ◌-◌, ◌<◌, ◌≤◌, Bool, true, false, cond, List, [], ◌∷◌, map, length, get_or, take, set, sum_by, fold, filter, refl, ap, arith}
 use Rattle.std.specs.List.{ContainsAt as Has, AllByRecursion as All}
-use Rattle.std.proofs.lemmas.List.Sums.{sum_by-cons, sum_by_more}
+use Rattle.std.proofs.lemmas.List.Sums.{sum_by-cons}
 use Rattle.std.proofs.lemmas.List.{take_more_set, map_more, take_all}
 
 pub sum_same : {C : Type 0} (f g : C → ℕ) (xs : List C) → All (λ x. f x ≡ g x) xs → sum_by f xs ≡ sum_by g xs
@@ -57,12 +57,10 @@ kept_all {C} p P (x ∷ xs) h = go (kept_all p P xs (λ j d l. h (suc j) d (omeg
     go rest true e = (h zero x (omega arith) e, rest)
     go rest false e = rest
 
--- the step and the end of a loop that takes f of each element off a volume
-pub left_more : {X : Type 0} (f : X → ℕ) (volume : ℕ) (xs : List X) (i : ℕ) (x : X) → i < length xs → x ≡ get_or xs i x → volume - sum_by f (take i xs) - f x ≡ volume - sum_by f (take (i + 1) xs)
-left_more f volume xs i x h read = omega (arith, sum_by_more f xs i x h, ap f read)
-
-pub left_all : {X : Type 0} (f : X → ℕ) (volume : ℕ) (xs : List X) (i : ℕ) → length xs ≤ i → volume - sum_by f (take i xs) ≡ volume - sum_by f xs
-left_all f volume xs i h = ap (λ l. volume - sum_by f l) (take_all i xs h)
+-- taking f of each element off a volume takes their sum off
+pub left_all : {X : Type 0} (f : X → ℕ) (volume : ℕ) (xs : List X) → fold (λ left x. left - f x) volume xs ≡ volume - sum_by f xs
+left_all f volume [] = omega arith
+left_all f volume (x ∷ xs) = omega (arith, left_all f (volume - f x) xs, sum_by-cons f x xs)
 
 -- the step and the end of a loop that writes f of each element
 pub mapped_more : {X : Type 0} (f : X → ℕ) (xs : List X) (ys : List ℕ) (i : ℕ) (x : X) (y : ℕ) → i < length xs → length ys ≡ length xs → x ≡ get_or xs i x → y ≡ f x → take i ys ≡ map f (take i xs) → take (i + 1) (set ys i y) ≡ map f (take (i + 1) xs)

@@ -3,6 +3,7 @@ ghost use Rattle.allocation.specs.Precedence.{block_before};
 ghost use Rattle.allocation.specs.Layers.{by_key, by_stamp};
 
 use crate::claim::Claim;
+use std::cmp::Reverse;
 
 #[derive(Clone, Copy, PartialEq, Eq, Debug)]
 pub struct BlockClaim {
@@ -26,12 +27,7 @@ impl Claim for BlockClaim {
     }
 
     fn goes_before(&self, other: &BlockClaim) -> bool {
-        if self.hours != other.hours {
-            return self.hours > other.hours;
-        }
-        if self.volume != other.volume {
-            return self.volume > other.volume;
-        }
-        self.stamp < other.stamp
+        (self.hours, self.volume, Reverse(self.stamp))
+            > (other.hours, other.volume, Reverse(other.stamp))
     }
 }

@@ -3,6 +3,7 @@ ghost use Rattle.allocation.specs.Precedence.{limit_before};
 ghost use Rattle.allocation.specs.Layers.{by_key, by_stamp};
 
 use crate::claim::Claim;
+use std::cmp::Reverse;
 
 #[derive(Clone, Copy, PartialEq, Eq, Debug)]
 pub struct LimitClaim {
@@ -25,12 +26,7 @@ impl Claim for LimitClaim {
     }
 
     fn goes_before(&self, other: &LimitClaim) -> bool {
-        if self.area != other.area {
-            return self.area > other.area;
-        }
-        if self.volume != other.volume {
-            return self.volume > other.volume;
-        }
-        self.stamp < other.stamp
+        (self.area, self.volume, Reverse(self.stamp))
+            > (other.area, other.volume, Reverse(other.stamp))
     }
 }

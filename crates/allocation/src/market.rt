@@ -3,6 +3,7 @@ ghost use Rattle.allocation.specs.Precedence.{market_before};
 ghost use Rattle.std.proofs.Common.{rules};
 
 use crate::claim::Claim;
+use std::cmp::Reverse;
 
 #[derive(Clone, Copy, PartialEq, Eq, Debug)]
 pub struct MarketClaim {
@@ -24,9 +25,6 @@ impl Claim for MarketClaim {
     }
 
     fn goes_before(&self, other: &MarketClaim) -> bool {
-        if self.volume != other.volume {
-            return self.volume > other.volume;
-        }
-        self.stamp < other.stamp
+        (self.volume, Reverse(self.stamp)) > (other.volume, Reverse(other.stamp))
     }
 }

@@ -14,19 +14,14 @@ impl<C: Claim> Claim for Option<C> {
     ghost ranked = { by_place C.Claim.ranked };
 
     fn asked(&self) -> u64 {
-        match self {
-            Some(claim) => claim.asked(),
-            None => 0,
-        }
+        self.as_ref().map_or(0, |claim| claim.asked())
     }
 
     fn goes_before(&self, other: &Option<C>) -> bool {
-        match self {
-            None => false,
-            Some(mine) => match other {
-                None => true,
-                Some(theirs) => mine.goes_before(theirs),
-            },
+        match (self, other) {
+            (None, _) => false,
+            (Some(_), None) => true,
+            (Some(mine), Some(theirs)) => mine.goes_before(theirs),
         }
     }
 }

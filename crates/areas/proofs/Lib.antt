@@ -1,4 +1,5 @@
 pub mod Sums
 pub mod Euclid
 pub mod Running
+pub mod Terraces
 pub mod Piecewise

@@ -1,6 +1,5 @@
 -- Sums over ticks.
 use Rattle.std.proofs.Common.{◌≡◌, ℕ, zero, suc, ◌+◌, ◌-◌, ◌*◌, ◌/◌, ◌<◌, ◌≤◌, sym, refl, ap, ◌∙◌, arith}
-use Rattle.std.proofs.lemmas.Nat.{mul-le}
 use Rattle.areas.specs.Slope.{slope_sum}
 use Rattle.areas.specs.Area.{sum_from}
 
@@ -30,6 +29,9 @@ sum_flat f v (suc n) t same =
     let e : f t ≡ v = same t (omega arith) (omega arith) in
     let r : sum_from f n (suc t) ≡ v * n = sum_flat f v n (suc t) (λ u a h. same u (omega arith) (omega arith)) in
     omega arith
+
+pub sum_level : (v n t : ℕ) → sum_from (λ _. v) n t ≡ v * n
+sum_level v n t = sum_flat (λ _. v) v n t (λ _ _ _. refl)
 
 pub sum_few : (f : ℕ → ℕ) (v n t : ℕ) → ((u : ℕ) → f u ≤ v) → sum_from f n t ≤ v * n
 unfolding sum_from
@@ -74,6 +76,3 @@ sum_none f n t e = ap (λ (x : ℕ). sum_from f x t) e
 -- no more than an order's greatest volume at every tick of the ladder
 pub sum_fits : (f : ℕ → ℕ) (n t : ℕ) → n ≤ 300000 → ((u : ℕ) → f u ≤ 100000) → sum_from f n t ≤ 30000000000
 sum_fits f n t h few = omega (arith, sum_few f 100000 n t few)
-
-pub product_fits : (v n : ℕ) → v ≤ 100000 → n ≤ 300000 → v * n ≤ 30000000000
-product_fits v n few h = mul-le v n 100000 300000 few h

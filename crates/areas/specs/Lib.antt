@@ -1,3 +1,3 @@
 pub mod Area
-pub mod Runs
 pub mod Slope
+pub mod Runs

@@ -16,18 +16,18 @@ crowded ps a = is_block a.product && nat_le 32 (others a.row ps)
 abbrev pub stamp_refusals : ℕ → List Condition
 stamp_refusals given = when (nat_le 60000 given) StampsSpent ∷ []
 
+-- what any order meets that is written
+abbrev pub write_refusals : List Place → ℕ → Asked → List Condition
+write_refusals ps given a = when (crowded ps a) (BlocksFull a.row) ∷ stamp_refusals given
+
 abbrev pub enter_refusals : List Place → ℕ → Asked → List Condition
-enter_refusals ps given a =
-    when (taken (place_at ps a.row)) (RowTaken a.row)
-    ∷ when (crowded ps a) (BlocksFull a.row)
-    ∷ stamp_refusals given
+enter_refusals ps given a = when (taken (place_at ps a.row)) (RowTaken a.row) ∷ write_refusals ps given a
 
 abbrev pub change_refusals : List Place → ℕ → Asked → List Condition
 change_refusals ps given a =
     when (not (taken (place_at ps a.row))) (RowEmpty a.row)
     ∷ when (not (owned_by a.member (place_at ps a.row))) (OtherMember a.row)
-    ∷ when (crowded ps a) (BlocksFull a.row)
-    ∷ stamp_refusals given
+    ∷ write_refusals ps given a
 
 abbrev pub withdraw_refusals : List Place → ℕ → ℕ → List Condition
 withdraw_refusals ps r m =

@@ -7,5 +7,4 @@ pub mod Shown
 pub mod HourSets
 pub mod Drafted
 pub mod Views
-pub mod Short
 pub mod Booked

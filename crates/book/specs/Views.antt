@@ -1,10 +1,8 @@
 -- The plain values behind a ticket, a row, the order table and the day's block products.
-use Rattle.std.specs.Prelude.{ℕ, List, map, take}
+use Rattle.std.specs.Prelude.{ℕ, List, map, take, Option, None, Some}
 use Rattle.curves.specs.Orders.{offer_of}
 use Rattle.book.specs.declared.tickets.Ticket.{Ticket}
 use Rattle.book.specs.declared.entries.Entry.{Entry}
-use Rattle.book.specs.declared.rows.Row.{Row}
-use Rattle.book.specs.declared.rows.Row.TheVariants.{Empty, Held}
 use Rattle.book.specs.declared.blocks.Blocks.{Blocks}
 use Rattle.book.specs.Bids.{Asked, Bid, Place, vacant, held}
 
@@ -14,11 +12,11 @@ ticket_of t = record { row = t.row; member = t.member; product = t.product; offe
 abbrev pub entry_of : Entry → Bid
 entry_of e = record { member = e.member; product = e.product; stamp = e.stamp; offer = offer_of e.order }
 
-abbrev pub place_of : Row → Place
-place_of Empty = vacant
-place_of (Held e) = held (entry_of e)
+abbrev pub place_of : Option Entry → Place
+place_of None = vacant
+place_of (Some e) = held (entry_of e)
 
-unfoldable pub places : List Row → List Place
+unfoldable pub places : List (Option Entry) → List Place
 places rows = map place_of rows
 
 abbrev pub sets_of : Blocks → List ℕ

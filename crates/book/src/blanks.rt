@@ -1,10 +1,10 @@
 // Tables that can be emptied.
-ghost use Rattle.std.specs.Prelude.{◌≡◌, length, replicate};
-ghost use Rattle.book.specs.declared.rows.Row.TheVariants.{Empty};
+ghost use Rattle.std.specs.Prelude.{◌≡◌, None, length, replicate};
 
 use crate::rows::Row;
 
-// A place of a table, which holds nothing at first.
+// A place of a table, which holds nothing at first. `Default` would only say that its value is one of the defaults, and the
+// contract of `clear` needs the value itself.
 pub trait Blank: Copy {
     ghost blank: { Self };
 
@@ -13,24 +13,18 @@ pub trait Blank: Copy {
 }
 
 impl Blank for Row {
-    ghost blank = { Empty };
+    ghost blank = { None };
 
     fn blank() -> Row {
-        Row::Empty
+        None
     }
 }
 
-fn wipe<T: Blank>(place: &mut T)
-    ensures { place.new ≡ T.Blank.blank }
-{
-    *place = T::blank();
-}
-
-// Empties every place.
+// Empties every place. `fill` clones, and a clone is not known to be the value itself.
 pub fn clear<T: Blank>(table: &mut [T])
     ensures { table.new ≡ replicate (length table.old) T.Blank.blank }
 {
-    for i in 0..table.len() {
-        wipe(&mut table[i]);
+    for place in table {
+        *place = T::blank();
     }
 }

@@ -2,7 +2,8 @@
 ghost use Rattle.std.specs.Prelude.{◌≡◌, ◌≤◌, true, take};
 ghost use Rattle.book.specs.HourSets.{all_hours};
 
-// The first `count` sets count; the rest fill the array.
+// The first `count` sets count; the rest fill the array, so that a day's blocks are a plain value and are copied (the
+// library's `ArrayVec` is not), and equal days need not be equal values.
 #[derive(Clone, Copy)]
 pub struct Blocks {
     pub(crate) sets: [u32; 14],

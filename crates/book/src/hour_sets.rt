@@ -10,7 +10,7 @@ use faults::fault::{Fault, Refusal};
 fn bad_hours(hours: u32) -> bool
     ensures { result ≡ bad_hours hours }
 {
-    hours < 1 || hours > 16_777_215
+    !(1..=16_777_215).contains(&hours)
 }
 
 impl Blocks {
@@ -23,19 +23,11 @@ impl Blocks {
         }
     }
 
-    fn add(&mut self, hours: u32)
-        requires fits { self.old.count < 14 }
-        requires proper { bad_hours hours ≡ false }
-        ensures { sets_of self.new ≡ pushed (sets_of self.old) hours }
-    {
-        self.sets[self.count] = hours;
-        self.count += 1;
-    }
-
-    fn listed(&self) -> &[u32]
+    // The hour sets of the day's blocks.
+    pub fn listed(&self) -> &[u32]
         ensures { result.now ≡ sets_of self.now }
     {
-        &self.sets[0..self.count]
+        &self.sets[..self.count]
     }
 
     // Adds a block. Refused where its hours are out of range or 14 blocks are there.
@@ -47,7 +39,8 @@ impl Blocks {
         if bad_hours(hours) || self.count >= 14 {
             return Err(Refusal::OutOfRange(0).without_text());
         }
-        self.add(hours);
+        self.sets[self.count] = hours;
+        self.count += 1;
         Ok(())
     }
 
@@ -61,11 +54,6 @@ impl Blocks {
     pub fn get(&self, block: usize) -> Option<u32>
         ensures { result ≡ hours_at (sets_of self.now) block }
     {
-        let sets = self.listed();
-        if block < sets.len() {
-            Some(sets[block])
-        } else {
-            None
-        }
+        self.listed().get(block).copied()
     }
 }

@@ -1,8 +1,4 @@
-// A row of the order table.
+// A row of the order table: the order that stands there, if one does.
 use crate::entries::Entry;
 
-#[derive(Clone, Copy)]
-pub enum Row {
-    Empty,
-    Held(Entry),
-}
+pub type Row = Option<Entry>;

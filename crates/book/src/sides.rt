@@ -1,117 +1,82 @@
 // One side of an hour in the order table, as a curve.
-ghost use Rattle.std.specs.Prelude.{◌≡◌, ℕ, ◌<◌, ◌≤◌, length};
+ghost use Rattle.std.specs.Prelude.{◌≡◌, ℕ, ◌≤◌, length, IfOk};
 ghost use Rattle.faults.specs.Answers.{viewed};
 ghost use Rattle.curves.specs.Steps.{open_end};
-ghost use Rattle.book.specs.Short.{Short};
 ghost use Rattle.book.specs.Shown.{place_shows, book_shows, lent_answer};
 ghost use Rattle.book.specs.Views.{place_of, places};
 ghost use Rattle.book.specs.Booked.{book_turned, book_few};
 ghost use Rattle.std.proofs.Common.{arith};
 ghost use Rattle.curves.specs.Offered.{open_bounded};
 
-use crate::lents::Lent;
 use crate::rows::Row;
 use curves::curves::Curve;
 use curves::sides::Side;
 use curves::ticks::Tick;
 use faults::fault::{Fault, Refusal};
 
-// What lends the rows of a table.
-pub trait Rows {
-    ghost listed: { Self → Short };
-
-    fn rows(&self) -> &[Row]
-        ensures { result.now ≡ (listed self.now).rows };
+// The rows of a lent table, at most 256, as one side of an hour reads them.
+#[derive(Clone, Copy)]
+pub struct TableSide<'a> {
+    rows: &'a [Row],
+    pub hour: u8,
+    pub side: Side,
+    ghost few: { length rows.now ≤ 256 },
 }
 
-impl<'a> Lent<'a> {
+impl<'a> TableSide<'a> {
     // Refused where there are more than 256 rows.
-    pub fn new(rows: &'a [Row]) -> Result<Lent<'a>, Fault>
-        ensures { viewed (λ t. t.rows.now) result ≡ lent_answer rows.now }
+    pub fn new(rows: &'a [Row], hour: u8, side: Side) -> Result<TableSide<'a>, Fault>
+        ensures lends { viewed (λ s. s.rows.now) result ≡ lent_answer rows.now }
+        ensures asks { IfOk result (λ s. (s.hour ≡ hour) × (s.side ≡ side)) }
     {
         if rows.len() > 256 {
             return Err(Refusal::WrongLength.without_text());
         }
-        Ok(Lent { rows })
+        Ok(TableSide { rows, hour, side })
     }
-}
-
-impl<'a> Rows for Lent<'a> {
-    ghost listed = { λ s. record { rows = s.rows.now; few = s.few } };
-
-    fn rows(&self) -> &[Row] {
-        self.rows
-    }
-}
-
-#[derive(Clone, Copy)]
-pub struct TableSide<T: Rows> {
-    pub table: T,
-    pub hour: u8,
-    pub side: Side,
 }
 
 // What a row adds to one side of an hour.
+#[tactic(auto, using(curves::specs::Offered::offer_few))]
 fn row_at(row: &Row, hour: u8, side: Side, tick: Tick) -> u64
-    ensures { result ≡ place_shows hour side (place_of row.now) tick.value }
+    ensures is { result ≡ place_shows hour side (place_of row.now) tick.value }
+    ensures few { result ≤ 100000 }
 {
     match row {
-        Row::Empty => 0,
-        Row::Held(entry) => {
-            if entry.product == hour as u32 && entry.order.side() == side {
-                entry.order.volume_at(tick)
-            } else {
-                0
-            }
+        Some(entry) if entry.product == u32::from(hour) && entry.order.side() == side => {
+            entry.order.volume_at(tick)
         }
+        _ => 0,
     }
 }
 
-fn rows_at(rows: &[Row], hour: u8, side: Side, tick: Tick) -> u64
-    requires { length rows.now ≤ 256 }
-    ensures { result ≡ book_shows hour side (places rows.now) tick.value }
-{
-    let mut sum: u64 = 0;
-    for row in rows {
-        sum += row_at(row, hour, side, tick);
-    }
-    sum
-}
-
-// The tick at which a side shows most.
-fn open_end(side: Side) -> Tick
-    ensures { result.value ≡ open_end side }
-{
-    match side {
-        Side::Buy => Tick::new(1).unwrap(),
-        Side::Sell => Tick::new(300_000).unwrap(),
-    }
-}
-
-impl<T: Rows> Curve for TableSide<T> {
+impl<'a> Curve for TableSide<'a> {
     ghost faces = { λ s. s.side };
 
-    ghost shows = { λ s t. book_shows s.hour s.side (places (T.Rows.listed s.table).rows) t };
+    ghost shows = { λ s. book_shows s.hour s.side (places s.rows.now) };
 
-    ghost most = { λ s. book_shows s.hour s.side (places (T.Rows.listed s.table).rows) (open_end s.side) };
+    ghost most = { λ s. book_shows s.hour s.side (places s.rows.now) (open_end s.side) };
 
-    ghost turned = { λ x. book_turned x.hour x.side (T.Rows.listed x.table).rows };
+    ghost turned = { λ s. book_turned s.hour s.side s.rows.now };
 
-    ghost bounded = { λ x.
-        let short = T.Rows.listed x.table in
-        let rows = short.rows in
-        open_bounded x.side (book_shows x.hour x.side (places rows)) (book_turned x.hour x.side rows)
-        (omega (arith, short.few, book_few x.hour x.side rows (open_end x.side))) };
+    ghost bounded = { λ s.
+        let rows = s.rows.now in
+        open_bounded s.side (book_shows s.hour s.side (places rows)) (book_turned s.hour s.side rows)
+        (omega (arith, s.few, book_few s.hour s.side rows (open_end s.side))) };
 
     fn side(&self) -> Side {
         self.side
     }
 
+    #[tactic(auto, using(crate::specs::Booked::book_sum))]
     fn volume_at(&self, tick: Tick) -> u64 {
-        rows_at(self.table.rows(), self.hour, self.side, tick)
+        self.rows
+            .iter()
+            .map(|row| row_at(row, self.hour, self.side, tick))
+            .sum()
     }
 
     fn greatest(&self) -> u64 {
-        self.volume_at(open_end(self.side))
+        self.volume_at(self.side.open_end())
     }
 }

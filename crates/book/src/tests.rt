@@ -54,10 +54,7 @@ fn selling(product: u32, terms: Terms) -> Draft {
 
 // The refusal of a draft in a day of one block.
 fn refusal(draft: Draft) -> Option<Fault> {
-    match admit(&draft, 1) {
-        Ok(_) => None,
-        Err(fault) => Some(fault),
-    }
+    admit(&draft, 1).err()
 }
 
 #[test]
@@ -92,7 +89,7 @@ fn drafts_are_refused_in_sequence(rt: HostRuntime) {
 
 #[test]
 fn rows_are_taken_changed_and_withdrawn(rt: HostRuntime) -> Result<(), Fail> {
-    let mut rows = [Row::Empty; 256];
+    let mut rows = [None; 256];
     let own = admit(&market(5, 7, 1), 0)?;
     let other = admit(&market(5, 8, 1), 0)?;
     assert_eq!(rt;
@@ -126,7 +123,7 @@ fn rows_are_taken_changed_and_withdrawn(rt: HostRuntime) -> Result<(), Fail> {
         withdraw(&mut rows, 5, 7),
         Err(Refusal::RowEmpty(5).without_text())
     );
-    let mut short = [Row::Empty; 8];
+    let mut short = [None; 8];
     assert_eq!(rt;
         enter(&mut short, 0, &own),
         Err(Refusal::WrongLength.without_text())
@@ -145,7 +142,7 @@ fn fill_with_blocks(rows: &mut [Row]) -> Result<(), Fault> {
 
 #[test]
 fn blocks_are_full_at_32_other_rows(rt: HostRuntime) -> Result<(), Fail> {
-    let mut rows = [Row::Empty; 256];
+    let mut rows = [None; 256];
     fill_with_blocks(&mut rows)?;
     let block = admit(&market(40, 7, 25), 1)?;
     assert_eq!(rt;
@@ -171,7 +168,7 @@ fn blocks_are_full_at_32_other_rows(rt: HostRuntime) -> Result<(), Fail> {
 
 #[test]
 fn an_hour_is_priced_from_its_own_orders(rt: HostRuntime) -> Result<(), Fail> {
-    let mut rows = [Row::Empty; 256];
+    let mut rows = [None; 256];
     enter(&mut rows, 0, &admit(&step(0, Side::Buy, 6000, 100), 0)?)?;
     enter(&mut rows, 1, &admit(&step(1, Side::Sell, 4000, 60), 0)?)?;
     enter(&mut rows, 2, &admit(&market(2, 7, 2), 0)?)?;

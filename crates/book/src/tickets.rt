@@ -3,6 +3,7 @@ ghost use Rattle.std.specs.Prelude.{◌≤◌};
 
 use curves::orders::Order;
 
+// An entry's member and product again: a part shared by the two would only add a step to every place that reads an entry.
 #[derive(Clone, Copy)]
 pub struct Ticket {
     pub row: usize,

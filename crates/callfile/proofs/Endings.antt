@@ -1,13 +1,13 @@
 -- An item whose value says which byte ends it: it is faithful, and a reader's steps through it.
-use Rattle.std.proofs.Common.{◌≡◌, ℕ, ◌+◌, Bool, true, false, eqb, List, [], ◌∷◌, ◌++◌, length, Ok, Err, sym, refl, ap, ◌∙◌, add-zero, arith}
+use Rattle.std.proofs.Common.{◌≡◌, ℕ, ◌+◌, Bool, true, false, eqb, List, [], ◌∷◌, ◌++◌, length, sym, refl, ap, ◌∙◌, add-zero, arith}
 use Rattle.faults.specs.declared.fault.Fault.{Fault}
-use Rattle.faults.specs.declared.fault.Refusal.TheVariants.{Misfit, OutOfRange}
+use Rattle.faults.specs.declared.fault.Refusal.TheVariants.{Misfit}
 use Rattle.faults.specs.Refusals.{fault}
 use Rattle.text.specs.declared.reader.Reader.{Reader}
-use Rattle.text.specs.Format.{Outcome, got, refused, onward, Verdict, fit, unfit, outside, Item, parting, run, after, closed, judged, Faithful}
-use Rattle.text.specs.Tokens.{Seen, token_of, size, answered, ahead}
+use Rattle.text.specs.Format.{Outcome, got, refused, onward, Verdict, fit, unfit, outside, Item, parting, run, after, closed, judged, judged_alone, alone, Faithful}
+use Rattle.text.specs.Tokens.{ahead}
 use Rattle.text.proofs.Laws.{Lawful, faithful_item}
-use Rattle.text.proofs.Steps.{Looks, item_on}
+use Rattle.text.proofs.Steps.{closed_value as closed_unit}
 use Rattle.callfile.specs.Ended.{judged_by, ended, nothing}
 
 closed_value : {A : Type 0} (c : ℕ) (b a : A) (l p : ℕ) (bs : List ℕ) (q : ℕ) (cs : List ℕ) → closed c b l p bs ≡ got a q cs → b ≡ a
@@ -39,33 +39,22 @@ module _ {A : Type 0} (c : A → ℕ) where
         of_item (I.judge (run bs)) l p (length (run bs)) (after bs) a (p + length text) cs ((faithful_item I (c a) L (k a)).full l p a cs h);
   }
 
-  fit_of : (v : Verdict A) (p l : ℕ) (a : A) → Ok a ≡ answered v p l → v ≡ fit a
-  fit_of (fit b) p l a e = let k : a ≡ b = cc in ap fit (sym k)
-  fit_of unfit p l a e = let z : ◌≡◌ {A = ℕ} 0 1 = cc in absurd (omega arith)
-  fit_of outside p l a e = let z : ◌≡◌ {A = ℕ} 0 1 = cc in absurd (omega arith)
+  -- an item, and then what ends it
+  judged_then : (v : Verdict A) (l p n : ℕ) (bs : List ℕ) → onward (judged_alone v l p n bs) (λ a q cs. closed (c a) a l q cs) ≡ judged_by c v l p n bs
+  judged_then (fit a) l p n bs = refl
+  judged_then unfit l p n bs = refl
+  judged_then outside l p n bs = refl
 
-  at_value : (v : Verdict A) (l p n : ℕ) (bs : List ℕ) (a : A) → v ≡ fit a → judged v (c a) l p n bs ≡ judged_by c v l p n bs
-  at_value v l p n bs a e = rw e
+  module _ (I : Item A) (l : ℕ) (s : Reader) where
+    -- the item led from s to t, and o is the reading of what ends it
+    pub ended_on : (t : Reader) (a : A) (o : Outcome (Unit {0})) → got a t.at (ahead t) ≡ alone I l s.at (ahead s) → o ≡ closed (c a) (tt {0}) l t.at (ahead t) → onward o (λ _ q cs. got a q cs) ≡ (ended c I).read l s.at (ahead s)
+    ended_on t a o e h =
+        ap (λ o. onward o (λ _ q cs. got a q cs)) h ∙ sym (closed_unit (c a) a l t.at (ahead t)) ∙ ap (λ o. onward o (λ a q cs. closed (c a) a l q cs)) e
+        ∙ judged_then (I.judge (run (ahead s))) l s.at (length (run (ahead s))) (after (ahead s))
 
-  unanswered : (v : Verdict A) (l p n : ℕ) (bs : List ℕ) (f : Fault) → Err f ≡ answered v p l → refused f ≡ judged_by c v l p n bs
-  unanswered (fit b) l p n bs f e = let z : ◌≡◌ {A = ℕ} 0 1 = cc in absurd (omega arith)
-  unanswered unfit l p n bs f e = let k : f ≡ fault (Misfit p) l = cc in ap refused k
-  unanswered outside l p n bs f e = let k : f ≡ fault (OutOfRange p) l = cc in ap refused k
-
-  -- a token was taken at s, at the place p, and judged
-  module _ (I : Item A) (look : Seen → Verdict A) (k : Looks I look) (l : ℕ) (s : Reader) (token : Seen) (p : ℕ) (seen : token ≡ token_of (ahead s)) (place : p ≡ s.at) where
-    judged_so : look token ≡ I.judge (run (ahead s))
-    judged_so = ap look seen ∙ k.same (ahead s)
-
-    -- it fits, t is the reader past it, and o the reading of what ends it
-    pub ended_on : (t : Reader) (a : A) (o : Outcome (Unit {0})) → Ok a ≡ answered (look token) p l → t.at ≡ s.at + size (token_of (ahead s)) → t.input.now ≡ s.input.now → o ≡ closed (c a) (tt {0}) l t.at (ahead t) → onward o (λ _ q cs. got a q cs) ≡ (ended c I).read l s.at (ahead s)
-    ended_on t a o e at i h =
-        item_on I look k (c a) l s token p seen place t a o e at i h
-        ∙ at_value (I.judge (run (ahead s))) l s.at (length (run (ahead s))) (after (ahead s)) a (sym judged_so ∙ fit_of (look token) p l a e)
-
-    -- it does not fit
-    pub ended_no : (f : Fault) → Err f ≡ answered (look token) p l → refused f ≡ (ended c I).read l s.at (ahead s)
-    ended_no f e = unanswered (look token) l p (length (run (ahead s))) (after (ahead s)) f e ∙ (λ x. judged_by c (judged_so x) l (place x) (length (run (ahead s))) (after (ahead s)))
+    -- the item does not fit
+    pub ended_no : (f : Fault) → refused f ≡ alone I l s.at (ahead s) → refused f ≡ (ended c I).read l s.at (ahead s)
+    ended_no f e = ap (λ o. onward o (λ a q cs. closed (c a) a l q cs)) e ∙ judged_then (I.judge (run (ahead s))) l s.at (length (run (ahead s))) (after (ahead s))
 
 pub faithful_nothing : Faithful nothing
 faithful_nothing = record {

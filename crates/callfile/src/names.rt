@@ -13,7 +13,8 @@ pub enum CallName {
     Finish,
 }
 
-#[derive(Clone, Copy)]
+// A type of this crate, since an impl of text's `Named` for calls' `Portion` is refused here.
+#[derive(Clone, Copy, PartialEq, Eq, Debug)]
 pub struct PortionWord {
     pub portion: Portion,
 }

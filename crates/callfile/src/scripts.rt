@@ -1,17 +1,18 @@
 // The calls of a day, up to the first line that cannot be read.
-ghost use Rattle.std.specs.Prelude.{◌≡◌, length, IfOk, codes};
-ghost use Rattle.dayfile.specs.Day.{count_text};
-ghost use Rattle.text.specs.Tokens.{told, ahead};
+ghost use Rattle.std.specs.Prelude.{◌≡◌, length, IfOk};
+ghost use Rattle.text.specs.Tokens.{ahead};
 ghost use Rattle.callfile.specs.Scripts.{leftover, script_of, calls_of, Scripted};
 
 use crate::lines::read_call;
 use calls::calls::Call;
+use dayfile::sections::read_count;
 use faults::fault::{Fault, Refusal};
 use std::alloc::{AllocError, Global};
-use text::close::Close;
 use text::reader::Reader;
 
-// Each call with the place of its line, and the fault of the text that ends the reading, if any.
+// Each call with the place of its line, and the fault of the text that ends the reading, if any: a value here and no error,
+// since the calls before it stand.
+// Two lists and not one of pairs: a history takes the calls alone as a slice, and a report the lines.
 #[derive(Drop)]
 pub struct Script {
     pub lines: Vec<usize>,
@@ -19,27 +20,15 @@ pub struct Script {
     pub fault: Option<Fault>,
 }
 
-// How many calls follow.
-fn read_count(reader: &mut Reader) -> Result<u32, Fault>
-    ensures told { told result reader.new ≡ (count_text (codes "calls") 0 4096).read 0 reader.old.at (ahead reader.old) }
-    ensures input { reader.new.input.now ≡ reader.old.input.now }
-{
-    let line = reader.at;
-    reader.keyword(line, b"calls", Close::Space)?;
-    reader.number(line, 0, 4096, Close::Line)
-}
-
 // The fault of a text that goes on where it should end.
 fn past_end(reader: &Reader) -> Option<Fault>
     ensures { result ≡ leftover reader.now.at (ahead reader.now) }
 {
     if reader.rest().is_empty() {
-        return None;
+        None
+    } else {
+        Some(Refusal::Misfit(reader.at).in_line(reader.at))
     }
-    Some(Fault {
-        refusal: Refusal::Misfit(reader.at),
-        line: reader.at,
-    })
 }
 
 // As many call lines as there are calls.
@@ -48,7 +37,7 @@ fn read_lines(heap: Global, reader: &mut Reader, n: u32) -> Result<Script, Alloc
 {
     let mut lines = Vec::new(heap);
     let mut calls = Vec::new(heap);
-    for i in 0..n {
+    for _ in 0..n {
         let line = reader.at;
         let call = match read_call(reader) {
             Ok(call) => call,
@@ -75,7 +64,7 @@ pub fn read_calls(heap: Global, reader: &mut Reader) -> Result<Script, AllocErro
     ensures script { IfOk result (λ s. Scripted s (calls_of reader.old.at (ahead reader.old))) }
     ensures even { IfOk result (λ s. length s.lines.items ≡ length s.calls.items) }
 {
-    match read_count(reader) {
+    match read_count(reader, b"calls", 0, 4096) {
         Ok(n) => read_lines(heap, reader, n),
         Err(fault) => Ok(Script {
             lines: Vec::new(heap),

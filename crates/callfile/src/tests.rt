@@ -13,12 +13,11 @@ fn script(heap: Global, text: &[u8]) -> Result<Script, AllocError> {
 }
 
 fn fault(heap: Global, text: &[u8]) -> Result<Option<Fault>, AllocError> {
-    let script = script(heap, text)?;
-    Ok(script.fault)
+    Ok(script(heap, text)?.fault)
 }
 
 fn at(refusal: Refusal, line: usize) -> Option<Fault> {
-    Some(Fault { refusal, line })
+    Some(refusal.in_line(line))
 }
 
 #[test]

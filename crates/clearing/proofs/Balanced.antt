@@ -12,7 +12,7 @@ use Rattle.allocation.proofs.Sharing.{all_served}
 use Rattle.curves.specs.declared.sides.Side.{Side}
 use Rattle.curves.specs.declared.sides.Side.TheVariants.{Buy, Sell}
 use Rattle.curves.specs.Offers.{Form, flat, stairs, slopes}
-use Rattle.book.specs.declared.rows.Row.{Row}
+use Rattle.book.specs.declared.entries.Entry.{Entry}
 use Rattle.book.specs.Bids.{Bid, Place, vacant, held}
 use Rattle.book.specs.Places.{place_at}
 use Rattle.book.specs.Shown.{same_side, book_shows}
@@ -32,14 +32,14 @@ use Rattle.clearing.specs.Clearing.{surplus_side, bought, sold, result_of, resul
 use Rattle.clearing.specs.Fixing.{Stamped}
 use Rattle.clearing.specs.Claims.{HourClaim, place_kind, block_kind, market_kind, limit_kind, row_kind, is_kept, block_claim, market_bid, limit_bid, bids_in, market_of, limit_of, claim_out, row_claim, row_claims}
 use Rattle.clearing.specs.Sharing.{shared_out, shares_on, hour_shares, FromClearing, HourShared}
-use Rattle.clearing.proofs.Uptos.{any_from}
+use Rattle.clearing.proofs.Uptos.{any_from, upto_same}
 use Rattle.clearing.proofs.Settling.{ranking, blocks_settled, get_d_stood}
 use Rattle.clearing.proofs.Tabled.{tabled_at, tabled_length}
 use Rattle.clearing.proofs.Collected.{blocks_small}
 use Rattle.clearing.proofs.Plain.{load_few}
 use Rattle.clearing.proofs.Cleared.{block_stamp, blocks_at, blocks_length, places_length}
 use Rattle.clearing.proofs.Joined.{first_of, first_out, row_share}
-use Rattle.clearing.proofs.Rowed.{all_asked, load_asked, sum_tabled, upto_same}
+use Rattle.clearing.proofs.Rowed.{all_asked, load_asked, sum_tabled}
 use Rattle.clearing.proofs.Shares.{map_tabled, share_at, ruled}
 
 -- the marks say which blocks stand
@@ -82,24 +82,24 @@ stamp_out m None None (Some a) p q r some = r a refl
 stamp_out m None None None p q r some = absurd (omega arith)
 
 block_claim_stamp : (f : Bool) (s : Side) (h : ℕ) (o : Option Block) (m : ℕ) → ((k : Block) → o ≡ Some k → k.stamp ≡ m) → (a : BlockClaim) → block_claim f s h o ≡ Some a → a.stamp ≡ m
-block_claim_stamp f s h None m p a e = let z : ◌≡◌ {A = ℕ} 0 1 = cc in absurd (omega arith)
+block_claim_stamp f s h None m p a e = absurd (cc)
 block_claim_stamp f s h (Some b) m p a e = test (f && (same_side s b.side && in_hour b.hours h)) e
   where
     test : (q : Bool) → cond q (Some (claim_of b)) None ≡ Some a → a.stamp ≡ m
     test true e = let same : claim_of b ≡ a = cc in sym (ap (λ (c : BlockClaim). c.stamp) same) ∙ p b refl
-    test false e = let z : ◌≡◌ {A = ℕ} 0 1 = cc in absurd (omega arith)
+    test false e = absurd (cc)
 
 market_stamp : (q : Bool) (b : Bid) (f : Form) (a : MarketClaim) → cond q (market_bid b f) None ≡ Some a → a.stamp ≡ b.stamp
 market_stamp true b (flat v) a e = let same : record { volume = v; stamp = b.stamp } ≡ a = cc in sym (ap (λ (c : MarketClaim). c.stamp) same)
-market_stamp true b (stairs ps) a e = let z : ◌≡◌ {A = ℕ} 0 1 = cc in absurd (omega arith)
-market_stamp true b (slopes ps) a e = let z : ◌≡◌ {A = ℕ} 0 1 = cc in absurd (omega arith)
-market_stamp false b f a e = let z : ◌≡◌ {A = ℕ} 0 1 = cc in absurd (omega arith)
+market_stamp true b (stairs ps) a e = absurd (cc)
+market_stamp true b (slopes ps) a e = absurd (cc)
+market_stamp false b f a e = absurd (cc)
 
 limit_stamp : (q : Bool) (b : Bid) (t : ℕ) (f : Form) (a : LimitClaim) → cond q (limit_bid b t f) None ≡ Some a → a.stamp ≡ b.stamp
-limit_stamp true b t (flat v) a e = let z : ◌≡◌ {A = ℕ} 0 1 = cc in absurd (omega arith)
+limit_stamp true b t (flat v) a e = absurd (cc)
 limit_stamp true b t (stairs ps) a e = sym (ap (λ (o : Option LimitClaim). elim o [ None ↦ 0 | Some c ↦ c.stamp ]) e)
 limit_stamp true b t (slopes ps) a e = sym (ap (λ (o : Option LimitClaim). elim o [ None ↦ 0 | Some c ↦ c.stamp ]) e)
-limit_stamp false b t f a e = let z : ◌≡◌ {A = ℕ} 0 1 = cc in absurd (omega arith)
+limit_stamp false b t f a e = absurd (cc)
 
 claim_stamp : (sets : List ℕ) (f : Bool) (s : Side) (h t : ℕ) (p : Place) → 0 < row_kind.asks (claim_out (block_claim f s h (block_of sets p)) (market_of (h + 1) s p) (limit_of (h + 1) s t p)) → (b : Bid) × ((p ≡ held b) × (row_kind.stamp (claim_out (block_claim f s h (block_of sets p)) (market_of (h + 1) s p) (limit_of (h + 1) s t p)) ≡ b.stamp))
 claim_stamp sets f s h t vacant some = absurd (omega arith)
@@ -133,12 +133,12 @@ pick Sell b s = s
 side_buy : (b s : ℕ) → surplus_side b s ≡ Buy → s < b
 side_buy b s e = elim (cases_lt s b) [
   | inl l ↦ l
-  | inr g ↦ let no : surplus_side b s ≡ Sell = ap (λ q. cond q Buy Sell) (le-ltb s b g) in let z : ◌≡◌ {A = ℕ} 0 1 = cc in absurd (omega arith)
+  | inr g ↦ let no : surplus_side b s ≡ Sell = ap (λ q. cond q Buy Sell) (le-ltb s b g) in absurd (cc)
 ]
 
 side_sell : (b s : ℕ) → surplus_side b s ≡ Sell → b ≤ s
 side_sell b s e = elim (cases_lt s b) [
-  | inl l ↦ let no : surplus_side b s ≡ Buy = ap (λ q. cond q Buy Sell) (lt-ltb s b l) in let z : ◌≡◌ {A = ℕ} 0 1 = cc in absurd (omega arith)
+  | inl l ↦ let no : surplus_side b s ≡ Buy = ap (λ q. cond q Buy Sell) (lt-ltb s b l) in absurd (cc)
   | inr g ↦ g
 ]
 
@@ -149,10 +149,10 @@ adds_up Sell Buy b s e x filled total lo hi ee ex h fb fs t = let l : s < b = lo
 adds_up Sell Sell b s e x filled total lo hi ee ex h fb fs t = let l : b ≤ s = hi refl in omega arith
 
 fits_other : (side rs : Side) (b s e filled : ℕ) → same_side side rs ≡ false → (rs ≡ Buy → s < b) → (rs ≡ Sell → b ≤ s) → e ≡ min b s → pick side b s ≤ cond (same_side side rs) (min (e + filled) 18446744073709551615) e
-fits_other Buy Buy b s e filled off lo hi ee = let z : ◌≡◌ {A = ℕ} 0 1 = cc in absurd (omega arith)
+fits_other Buy Buy b s e filled off lo hi ee = absurd (cc)
 fits_other Buy Sell b s e filled off lo hi ee = let l : b ≤ s = hi refl in omega arith
 fits_other Sell Buy b s e filled off lo hi ee = let l : s < b = lo refl in omega arith
-fits_other Sell Sell b s e filled off lo hi ee = let z : ◌≡◌ {A = ℕ} 0 1 = cc in absurd (omega arith)
+fits_other Sell Sell b s e filled off lo hi ee = absurd (cc)
 
 enough : (q : Bool) (load e filled : ℕ) → load ≤ e → e ≤ 51200000 → load ≤ cond q (min (e + filled) 18446744073709551615) e
 enough true load e filled h k = omega arith
@@ -161,8 +161,8 @@ enough false load e filled h k = h
 -- a standing block that does not fail is not short
 
 none_short : (l s : Bool) → cause_of true l s ≡ None → s ≡ false
-none_short true s e = let z : ◌≡◌ {A = ℕ} 0 1 = cc in absurd (omega arith)
-none_short false true e = let z : ◌≡◌ {A = ℕ} 0 1 = cc in absurd (omega arith)
+none_short true s e = absurd (cc)
+none_short false true e = absurd (cc)
 none_short false false e = refl
 
 false_unless : (q : Bool) → (q ≡ true → true ≡ false) → q ≡ false
@@ -179,12 +179,12 @@ stood_short f l s o b p q e = none_short (l b) (s b) (sym (ap (λ x. verdict_of 
 -- a row has a claim on the side of its order alone
 
 with_side : (b : Bid) (hours : ℕ) (x : Option (ℕ × Option ℕ)) (k : Block) → block_with b hours x ≡ Some k → k.side ≡ b.offer.side
-with_side b hours None k e = let z : ◌≡◌ {A = ℕ} 0 1 = cc in absurd (omega arith)
+with_side b hours None k e = absurd (cc)
 with_side b hours (Some x) k e = let same : record { side = b.offer.side; hours = hours; volume = x.0; limit = x.1; stamp = b.stamp } ≡ k = cc in sym (ap (λ (y : Block). y.side) same)
 
 in_side : (q : Bool) (b : Bid) (o : Option ℕ) (k : Block) → cond q (block_in b o) None ≡ Some k → k.side ≡ b.offer.side
-in_side false b o k e = let z : ◌≡◌ {A = ℕ} 0 1 = cc in absurd (omega arith)
-in_side true b None k e = let z : ◌≡◌ {A = ℕ} 0 1 = cc in absurd (omega arith)
+in_side false b o k e = absurd (cc)
+in_side true b None k e = absurd (cc)
 in_side true b (Some hours) k e = with_side b hours (block_terms b.offer.form) k e
 
 off_side : (f g : Bool) → (f && (false && g)) ≡ false
@@ -223,7 +223,7 @@ picked : (s : Side) (f : Side → ℕ) → pick s (f Buy) (f Sell) ≡ f s
 picked Buy f = refl
 picked Sell f = refl
 
-module _ (rows : List Row) (sets : List ℕ) (ms : List Mark) (h : ℕ) (r : HourResult) (filled : ℕ) (few : length rows ≤ 256) (within : h < 24) where
+module _ (rows : List (Option Entry)) (sets : List ℕ) (ms : List Mark) (h : ℕ) (r : HourResult) (filled : ℕ) (few : length rows ≤ 256) (within : h < 24) where
   abbrev ps : List Place
   ps = places rows
 

@@ -5,7 +5,7 @@ use Rattle.std.proofs.lemmas.List.{length-map, get_or-map}
 use Rattle.curves.specs.declared.sides.Side.TheVariants.{Buy, Sell}
 use Rattle.curves.specs.declared.ticks.Tick.{Tick}
 use Rattle.curves.specs.Price.{price_of, executed, surplus, Best}
-use Rattle.book.specs.declared.rows.Row.{Row}
+use Rattle.book.specs.declared.entries.Entry.{Entry}
 use Rattle.book.specs.Bids.{Bid, Place, vacant, held}
 use Rattle.book.specs.Places.{place_at, holds_block, blocks_held}
 use Rattle.book.specs.Views.{place_of, places}
@@ -30,20 +30,20 @@ use Rattle.clearing.proofs.Plain.{load_few, settled}
 -- a place with a block order holds a bid, and the block has its stamp
 
 with_stamp : (b : Bid) (hours : ℕ) (x : Option (ℕ × Option ℕ)) (k : Block) → block_with b hours x ≡ Some k → k.stamp ≡ b.stamp
-with_stamp b hours None k e = let z : ◌≡◌ {A = ℕ} 0 1 = cc in absurd (omega arith)
+with_stamp b hours None k e = absurd (cc)
 with_stamp b hours (Some x) k e = let same : record { side = b.offer.side; hours = hours; volume = x.0; limit = x.1; stamp = b.stamp } ≡ k = cc in sym (ap (λ (y : Block). y.stamp) same)
 
 in_stamp : (q : Bool) (b : Bid) (o : Option ℕ) (k : Block) → cond q (block_in b o) None ≡ Some k → k.stamp ≡ b.stamp
-in_stamp false b o k e = let z : ◌≡◌ {A = ℕ} 0 1 = cc in absurd (omega arith)
-in_stamp true b None k e = let z : ◌≡◌ {A = ℕ} 0 1 = cc in absurd (omega arith)
+in_stamp false b o k e = absurd (cc)
+in_stamp true b None k e = absurd (cc)
 in_stamp true b (Some hours) k e = with_stamp b hours (block_terms b.offer.form) k e
 
 pub block_stamp : (sets : List ℕ) (p : Place) (k : Block) → block_of sets p ≡ Some k → (b : Bid) × ((p ≡ held b) × (k.stamp ≡ b.stamp))
-block_stamp sets vacant k e = let z : ◌≡◌ {A = ℕ} 0 1 = cc in absurd (omega arith)
+block_stamp sets vacant k e = absurd (cc)
 block_stamp sets (held b) k e = (b, (refl, in_stamp (ltb 24 b.product) b _ k e))
 
 some_of : {A : Type 0} (o : Option A) → is_some o ≡ true → (a : A) × (o ≡ Some a)
-some_of None e = let z : ◌≡◌ {A = ℕ} 0 1 = cc in absurd (omega arith)
+some_of None e = absurd (cc)
 some_of (Some a) e = (a, refl)
 
 pub blocks_length : (sets : List ℕ) (ps : List Place) → length (blocks_of sets ps) ≡ length ps
@@ -76,7 +76,7 @@ few_held sets (p ∷ ps) = omega (arith, sum_by-cons (λ o. one_if (is_some o)) 
 -- of two blocks at places with different stamps one goes before the other
 goes_other_way : (x y : Bool) → x ≡ not y → x ≡ false → y ≡ true
 goes_other_way x true e f = refl
-goes_other_way x false e f = let z : true ≡ false = sym e ∙ f in let z : ◌≡◌ {A = ℕ} 0 1 = cc in absurd (omega arith)
+goes_other_way x false e f = absurd (cc (sym e ∙ f))
 
 module _ (ps : List Place) (sets refs : List ℕ) where
   abbrev bs : List (Option Block)
@@ -116,7 +116,7 @@ module _ (ps : List Place) (sets refs : List ℕ) where
 
 -- the hours
 
-pub places_length : (rows : List Row) → length (places rows) ≡ length rows
+pub places_length : (rows : List (Option Entry)) → length (places rows) ≡ length rows
 unfolding places
 places_length rows = length-map rows place_of
 
@@ -126,7 +126,7 @@ tick_at [] h l = absurd (omega arith)
 tick_at (t ∷ ts) zero l = (t.low, t.high)
 tick_at (t ∷ ts) (suc h) l = tick_at ts h (omega arith)
 
-module _ (rows : List Row) (sets : List ℕ) (ts : List Tick) (few : length rows ≤ 256) (long : length ts ≡ 24) where
+module _ (rows : List (Option Entry)) (sets : List ℕ) (ts : List Tick) (few : length rows ≤ 256) (long : length ts ≡ 24) where
   pub hours_priced : (r : ℕ) (results : List HourResult) (ms : List Mark) → results ≡ results_of (places rows) (blocks_of sets (places rows)) (ticks ts) (stood r ms) → HoursPriced (places rows) sets (ticks ts) r results ms
   unfolding result_of
   hours_priced r results ms is h l =

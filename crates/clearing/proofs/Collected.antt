@@ -1,31 +1,18 @@
 -- The block orders collected from the rows: a block of a row, and its volume.
-use Rattle.std.proofs.Common.{◌≡◌, ℕ, zero, suc, ◌-◌, ◌≤◌, Bool, true, false, cond, ltb, leb, List, [], ◌∷◌, length, get_or, take, Some, None, Option, refl, ap, ◌∙◌, arith}
+use Rattle.std.proofs.Common.{◌≡◌, ℕ, zero, suc, ◌-◌, ◌≤◌, Bool, true, false, cond, ltb, leb, List, [], ◌∷◌, get_or, take, Some, None, Option, refl, arith}
 use Rattle.std.proofs.lemmas.Bool.{le-leb, leb-true, and_from, and_parts}
 use Rattle.curves.specs.declared.pairs.Pair.{Pair}
 use Rattle.curves.specs.declared.orders.Order.{Order}
 use Rattle.curves.specs.declared.orders.Order.TheVariants.{Market, Step, Linear}
 use Rattle.curves.specs.Orders.{offer_of}
 use Rattle.curves.specs.Views.{points}
-use Rattle.book.specs.declared.rows.Row.{Row}
-use Rattle.book.specs.declared.rows.Row.TheVariants.{Empty, Held}
+use Rattle.book.specs.declared.entries.Entry.{Entry}
 use Rattle.book.specs.Bids.{Bid}
 use Rattle.book.specs.HourSets.{hours_at}
 use Rattle.book.specs.Views.{entry_of, place_of, places}
 use Rattle.allocation.specs.Places.{place_number}
 use Rattle.clearing.specs.declared.blocks.Block.{Block}
-use Rattle.clearing.proofs.Tabled.{Mapped, mapped_all, map_twice}
 use Rattle.clearing.specs.Blocks.{single_terms, block_terms, block_with, block_in, block_of, blocks_of, small_block, small_blocks}
-
--- one pair, and another number of them
-pub one_pair : (cs : List Pair) (p : Pair) → length cs ≡ 1 → p ≡ get_or cs 0 p → Some (p.volume, Some p.tick) ≡ single_terms (points cs)
-one_pair [] p e is = absurd (omega arith)
-one_pair (c ∷ []) p e is = ap (λ (q : Pair). Some (q.volume, Some q.tick)) is
-one_pair (c ∷ d ∷ cs) p e is = absurd (omega arith)
-
-pub other_pairs : (cs : List Pair) → (length cs ≡ 1 → ⊥) → single_terms (points cs) ≡ None
-other_pairs [] ne = refl
-other_pairs (c ∷ []) ne = absurd (ne refl)
-other_pairs (c ∷ d ∷ cs) ne = refl
 
 abbrev small_terms : Option (ℕ × Option ℕ) → Bool
 small_terms None = true
@@ -50,19 +37,14 @@ in_small false b o h = refl
 in_small true b None h = refl
 in_small true b (Some hours) h = with_small b hours (block_terms b.offer.form) h
 
-pub block_small : (sets : List ℕ) (r : Row) → small_block (block_of sets (place_of r)) ≡ true
-block_small sets Empty = refl
-block_small sets (Held e) = in_small (ltb 24 e.product) (entry_of e) (hours_at sets (e.product - 25)) (terms_small e.order)
+pub block_small : (sets : List ℕ) (r : Option Entry) → small_block (block_of sets (place_of r)) ≡ true
+block_small sets None = refl
+block_small sets (Some e) = in_small (ltb 24 e.product) (entry_of e) (hours_at sets (e.product - 25)) (terms_small e.order)
 
-pub blocks_small : (sets : List ℕ) (rows : List Row) → small_blocks (blocks_of sets (places rows)) ≡ true
+pub blocks_small : (sets : List ℕ) (rows : List (Option Entry)) → small_blocks (blocks_of sets (places rows)) ≡ true
 unfolding small_blocks blocks_of places
 blocks_small sets [] = refl
 blocks_small sets (r ∷ rs) = and_from _ _ (block_small sets r) (blocks_small sets rs)
-
--- the places of blocks, once every row has been read
-pub collected : (sets : List ℕ) (rows : List Row) (bs : List (Option Block)) (i : ℕ) → length rows ≤ i → Mapped (λ r. block_of sets (place_of r)) rows bs i → bs ≡ blocks_of sets (places rows)
-unfolding blocks_of places
-collected sets rows bs i h so = mapped_all (λ r. block_of sets (place_of r)) rows bs i h so ∙ map_twice (block_of sets) place_of rows
 
 small_volume : (o : Option Block) → small_block o ≡ true → place_number (λ (b : Block). b.volume) o ≤ 100000
 small_volume None h = omega arith

@@ -1,5 +1,8 @@
 pub mod Uptos
+pub mod Read
+pub mod Bids
 pub mod Lowest
+pub mod Loaded
 pub mod Settling
 pub mod Tabled
 pub mod Collected

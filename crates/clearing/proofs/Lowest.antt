@@ -4,8 +4,7 @@ use Rattle.clearing.specs.declared.marks.Cause.{Cause}
 use Rattle.clearing.specs.declared.marks.Cause.TheVariants.{Loss, Shortage}
 use Rattle.clearing.specs.declared.blocks.Block.{Block}
 use Rattle.clearing.specs.declared.results.HourResult.{HourResult}
-use Rattle.curves.specs.declared.sides.Side.{Side}
-use Rattle.clearing.specs.Verdicts.{cause_of, verdict_of, verdict, loss, short, adds_of}
+use Rattle.clearing.specs.Verdicts.{cause_of, verdict_of, verdict, loss, short}
 use Rattle.clearing.specs.Rounds.{lower_of, lowest_upto}
 
 pub lowest_none : (verdict : ℕ → Option Cause) (before : ℕ → ℕ → Bool) → lowest_upto verdict before 0 ≡ None
@@ -35,6 +34,3 @@ at_empty bs fs rs k e = ap (verdict_of (get_or fs k false) (λ b. loss b rs) (sh
 
 pub at_block : (bs : List (Option Block)) (fs : List Bool) (rs : List HourResult) (k : ℕ) (b : Block) (v : Option Cause) → get_or bs k None ≡ Some b → cause_of (get_or fs k false) (loss b rs) (short bs fs rs b) ≡ v → verdict bs fs rs k ≡ v
 at_block bs fs rs k b v e h = ap (verdict_of (get_or fs k false) (λ b. loss b rs) (short bs fs rs)) e ∙ h
-
-pub adds_none : (f : Bool) (s : Side) (h : ℕ) (o : Option Block) → o ≡ None → adds_of f s h o ≡ 0
-adds_none f s h o e = ap (adds_of f s h) e

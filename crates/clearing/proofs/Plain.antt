@@ -11,7 +11,7 @@ use Rattle.curves.specs.Ranges.{bad_tick}
 use Rattle.curves.specs.Loads.{capped}
 use Rattle.curves.specs.Price.{price_of, executed, surplus}
 use Rattle.curves.proofs.Rules as rules
-use Rattle.book.specs.declared.rows.Row.{Row}
+use Rattle.book.specs.declared.entries.Entry.{Entry}
 use Rattle.book.specs.Shown.{same_side, book_shows, bad_hour, hour_answer}
 use Rattle.book.specs.Views.{places}
 use Rattle.book.specs.Booked.{book_few, book_turned}
@@ -56,7 +56,7 @@ added_turned Buy f v h = λ t u a b c. omega (arith, h t u a b c)
 added_turned Sell f v h = λ t u a b c. omega (arith, h t u a b c)
 
 -- the two tables of an hour: its orders and a load
-module _ (rows : List Row) (hour bl sl ref : ℕ) where
+module _ (rows : List (Option Entry)) (hour bl sl ref : ℕ) where
   abbrev pub buying : ℕ → ℕ
   buying t = book_shows hour Buy (places rows) t + bl
 
@@ -90,7 +90,7 @@ side_same b s = elim (cases_lt s b) [
   | inr g ↦ ap (λ x. cond x Buy Sell) (le-ltb (min b s) b (omega arith) ∙ sym (le-ltb s b g))
 ]
 
-abbrev result : ℕ → ℕ → ℕ → Side → HourResult
+abbrev pub result : ℕ → ℕ → ℕ → Side → HourResult
 result p e x side = record { price = p; executed = e; surplus = x; side = side }
 
 pub hour_result : (ps : List Place) (number bl sl ref : ℕ) (x : ℕ × ℕ × ℕ) → ◌≡◌ {A = Result (ℕ × ℕ × ℕ) Fault} (Ok x) (Ok (triple (λ t. book_shows number Buy ps t + bl) (λ t. book_shows number Sell ps t + sl) ref)) → published x (book_shows number Buy ps x.0 + bl) ≡ with_loads ps number bl sl ref
@@ -107,11 +107,16 @@ hour_of_day ps bs refs fs h bl sl ref p q r =
     ap (λ x. with_loads ps (h + 1) x sl ref) p ∙ ap (λ x. with_loads ps (h + 1) (load_of bs fs Buy h) x ref) q ∙ ap (λ x. with_loads ps (h + 1) (load_of bs fs Buy h) (load_of bs fs Sell h) x) r
 
 -- the hour that a day's rounds ask for
-module _ (rows : List Row) (bs : List (Option Block)) (fs : List Bool) (h bl sl ref : ℕ) (few : length rows ≤ 256) (placed : length bs ≤ 256) (small : small_blocks bs ≡ true)
+module _ (rows : List (Option Entry)) (bs : List (Option Block)) (fs : List Bool) (h bl sl ref : ℕ) (few : length rows ≤ 256) (placed : length bs ≤ 256) (small : small_blocks bs ≡ true)
     (within : h < 24) (bl_is : bl ≡ load_of bs fs Buy h) (sl-is : sl ≡ load_of bs fs Sell h) (low : 1 ≤ ref) (high : ref ≤ 300000) where
-  pub hour_granted : (r : Result (ℕ × ℕ × ℕ) Fault) → r ≡ hour_answer (length rows) (places rows) (h + 1) bl sl ref → r ≡ Ok (triple (buying rows (h + 1) bl sl ref) (selling rows (h + 1) bl sl ref) ref)
-  hour_granted r e =
-      e ∙ hour_plain rows (h + 1) bl sl ref few (omega (arith, load_few bs fs Buy h placed small)) (omega (arith, load_few bs fs Sell h placed small)) low high (omega arith) (omega arith)
+  pub hour_granted : (number : ℕ) (r : Result (ℕ × ℕ × ℕ) Fault) → number ≡ h + 1 → r ≡ hour_answer (length rows) (places rows) number bl sl ref → r ≡ Ok (triple (buying rows (h + 1) bl sl ref) (selling rows (h + 1) bl sl ref) ref)
+  hour_granted number r n e =
+      e ∙ ap (λ k. hour_answer (length rows) (places rows) k bl sl ref) n ∙ hour_plain rows (h + 1) bl sl ref few (omega (arith, load_few bs fs Buy h placed small)) (omega (arith, load_few bs fs Sell h placed small)) low high (omega arith) (omega arith)
 
-  pub hour_settled : rules.Settled (buying rows (h + 1) bl sl ref) (selling rows (h + 1) bl sl ref) (price_of (buying rows (h + 1) bl sl ref) (selling rows (h + 1) bl sl ref) ref)
-  hour_settled = settled rows (h + 1) bl sl ref few (omega (arith, load_few bs fs Buy h placed small)) (omega (arith, load_few bs fs Sell h placed small)) low high
+  -- the price that the call answers is a tick
+  pub hour_tick : (x : ℕ × ℕ × ℕ) → ◌≡◌ {A = Result (ℕ × ℕ × ℕ) Fault} (Ok x) (Ok (triple (buying rows (h + 1) bl sl ref) (selling rows (h + 1) bl sl ref) ref)) → (1 ≤ x.0) × (x.0 ≤ 300000)
+  hour_tick x e =
+      let same : x ≡ triple (buying rows (h + 1) bl sl ref) (selling rows (h + 1) bl sl ref) ref = cc in
+      let price = ap (λ (y : ℕ × ℕ × ℕ). y.0) same in
+      let s = settled rows (h + 1) bl sl ref few (omega (arith, load_few bs fs Buy h placed small)) (omega (arith, load_few bs fs Sell h placed small)) low high in
+      (omega (arith, price, s.low), omega (arith, price, s.high))

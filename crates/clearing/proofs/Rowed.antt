@@ -1,7 +1,7 @@
 -- The claims of the rows: one to a row at most, what they ask for together, and their stamps.
-use Rattle.std.proofs.Common.{◌≡◌, ℕ, zero, suc, ◌+◌, ◌<◌, ◌≤◌, Bool, true, false, cond, ◌&&◌, ltb, List, [], ◌∷◌, map, length, get_or, take, is_some, Some, None, sum_by, Option, sym, refl, ap, ◌∙◌, arith}
+use Rattle.std.proofs.Common.{◌≡◌, ℕ, zero, suc, ◌+◌, ◌<◌, ◌≤◌, Bool, true, false, cond, ◌&&◌, ltb, List, [], ◌∷◌, map, length, get_or, is_some, Some, None, sum_by, Option, sym, refl, ap, ◌∙◌, arith}
 use Rattle.std.specs.List.{range_with_len}
-use Rattle.std.proofs.lemmas.List.Sums.{sum_by-cons, sum_by_more}
+use Rattle.std.proofs.lemmas.List.Sums.{sum_by-cons}
 use Rattle.std.proofs.lemmas.List.FromFn.{sum_by-map-range_with_len_more}
 use Rattle.std.proofs.lemmas.Bool.{ne_eqb, ltb-true}
 use Rattle.std.proofs.lemmas.List.{take_all}
@@ -21,6 +21,7 @@ use Rattle.clearing.specs.Verdicts.{claim_of, adds_of, adds, load_of}
 use Rattle.clearing.specs.Blocks.{block_in, block_of, blocks_of}
 use Rattle.clearing.specs.Clearing.{tabled}
 use Rattle.clearing.specs.Claims.{place_kind, block_kind, market_kind, limit_kind, row_kind, is_kept, block_claim, market_bid, limit_bid, bids_in, market_of, limit_of, row_claim, row_claims}
+use Rattle.clearing.proofs.Uptos.{upto_same, sum_upto}
 use Rattle.clearing.proofs.Joined.{AtMostOne, asks_out}
 use Rattle.clearing.proofs.Cleared.{blocks_at, blocks_length}
 
@@ -75,11 +76,6 @@ place_asks hour side t (held b) = asks_form (bids_in hour side b) b b.offer.form
 
 -- sums below n
 
-pub upto_same : (f g : ℕ → ℕ) (n : ℕ) → ((k : ℕ) → k < n → f k ≡ g k) → upto f n ≡ upto g n
-unfolding upto
-upto_same f g zero same = refl
-upto_same f g (suc n) same = omega (arith, same n (omega arith), upto_same f g n (λ k l. same k (omega arith)))
-
 upto_both : (f g : ℕ → ℕ) (n : ℕ) → upto (λ k. f k + g k) n ≡ upto f n + upto g n
 unfolding upto
 upto_both f g zero = refl
@@ -96,14 +92,6 @@ book_sum : (hour : ℕ) (side : Side) (ps : List Place) (t : ℕ) → book_shows
 unfolding book_shows
 book_sum hour side [] t = refl
 book_sum hour side (p ∷ ps) t = omega (arith, sum_by-cons (λ p. place_shows hour side p t) p ps, book_sum hour side ps t)
-
-sum_upto : {X : Type 0} (f : X → ℕ) (d : X) (xs : List X) (n : ℕ) → n ≤ length xs → upto (λ k. f (get_or xs k d)) n ≡ sum_by f (take n xs)
-unfolding upto
-sum_upto f d xs zero h = refl
-sum_upto f d xs (suc n) h =
-    let one : n + 1 ≡ suc n = omega arith in
-    let more = sum_by_more f xs n d (omega arith) in
-    omega (arith, sum_upto f d xs n (omega arith), more, ap (λ m. sum_by f (take m xs)) one)
 
 book_upto : (hour : ℕ) (side : Side) (ps : List Place) (t : ℕ) → upto (λ k. place_shows hour side (place_at ps k) t) (length ps) ≡ book_shows hour side ps t
 book_upto hour side ps t = sum_upto (λ p. place_shows hour side p t) vacant ps (length ps) (omega arith) ∙ ap (sum_by (λ p. place_shows hour side p t)) (take_all (length ps) ps (omega arith)) ∙ sym (book_sum hour side ps t)

@@ -231,16 +231,16 @@ one_less true b h = omega (arith, ap one_if (h refl))
 one_less false b h = omega arith
 
 is_drop : (m : Mark) → is_dropped m ≡ true → (q : ℕ) × (c : Cause) × (m ≡ Dropped q c)
-is_drop Kept e = let z : ◌≡◌ {A = ℕ} 0 1 = cc in absurd (omega arith)
+is_drop Kept e = absurd (cc)
 is_drop (Dropped q c) e = (q, c, refl)
 
 pub standing_fails : (f : Bool) (l s : Block → Bool) (o : Option Block) (c : Cause) → verdict_of f l s o ≡ Some c → f ≡ true
 standing_fails true l s o c e = refl
-standing_fails false l s None c e = let z : ◌≡◌ {A = ℕ} 0 1 = cc in absurd (omega arith)
-standing_fails false l s (Some b) c e = let z : ◌≡◌ {A = ℕ} 0 1 = cc in absurd (omega arith)
+standing_fails false l s None c e = absurd (cc)
+standing_fails false l s (Some b) c e = absurd (cc)
 
 block_fails : (f : Bool) (l s : Block → Bool) (o : Option Block) (c : Cause) → verdict_of f l s o ≡ Some c → is_some o ≡ true
-block_fails f l s None c e = let z : ◌≡◌ {A = ℕ} 0 1 = cc in absurd (omega arith)
+block_fails f l s None c e = absurd (cc)
 block_fails f l s (Some b) c e = refl
 
 pub row_fails : (bs : List (Option Block)) (fs : List Bool) (rs : List HourResult) (k : ℕ) (c : Cause) → verdict bs fs rs k ≡ Some c → is_some (get_or bs k None) ≡ true
@@ -287,28 +287,12 @@ module _ (bs : List (Option Block)) (priced : List Bool → List HourResult) whe
       (length fs ≡ length bs) × (length ms ≡ length bs) × (r + count fs ≡ length bs + 1)
       × (rounds_from (next_drop bs priced) (count fs) r fs ms ≡ rounds_of bs priced)
 
-  pub running_first : (fs : List Bool) (ms : List Mark) (m n : ℕ) → fs ≡ replicate m true → ms ≡ replicate n Kept → m ≡ length bs → n ≡ length bs → Running 1 fs ms
-  running_first fs ms m n e f p q =
-      let fs_is : fs ≡ replicate (length bs) true = e ∙ ap (λ k. replicate k true) p in
-      let ms_is : ms ≡ replicate (length bs) Kept = f ∙ ap (λ k. replicate k Kept) q in
-      let few : count fs ≡ length bs = ap count fs_is ∙ count_all (length bs) in (
-        ap length fs_is ∙ length-replicate (length bs) true,
-        ap length ms_is ∙ length-replicate (length bs) Kept,
-        omega arith,
-        ap (λ k. rounds_from (next_drop bs priced) k 1 fs ms) few ∙ ap (λ l. rounds_from (next_drop bs priced) (length bs) 1 l ms) fs_is
-            ∙ ap (λ l. rounds_from (next_drop bs priced) (length bs) 1 (replicate (length bs) true) l) ms_is,
-      )
-
   pub fewer : (fs : List Bool) (i : ℕ) (c : Cause) → length fs ≡ length bs → next_drop bs priced fs ≡ Some (i, c) → count fs ≡ suc (count (set fs i false))
   fewer fs i c long e = let s = drop_stands bs priced fs (i, c) e in count_less fs i (omega (arith, s.0)) s.1
 
   pub running_more : (r : ℕ) (fs : List Bool) (ms : List Mark) (i : ℕ) (c : Cause) → Running r fs ms → next_drop bs priced fs ≡ Some (i, c) → Running (r + 1) (set fs i false) (set ms i (Dropped r c))
   running_more r fs ms i c run e =
       (length-set fs i false ∙ run.0, length-set ms i (Dropped r c) ∙ run.1, omega (arith, run.2, fewer fs i c run.0 e), sym (one_round bs priced r fs ms (i, c) run.0 e) ∙ run.3)
-
-  pub running_step : (r : ℕ) (fs : List Bool) (ms : List Mark) (i : ℕ) (c : Cause) (r' : ℕ) (fs' : List Bool) (ms' : List Mark) → Running r fs ms → next_drop bs priced fs ≡ Some (i, c) → r' ≡ r + 1 → fs' ≡ set fs i false → ms' ≡ set ms i (Dropped r c) → Running r' fs' ms'
-  running_step r fs ms i c r' fs' ms' run e p q s =
-      subst (λ x. Running x fs' ms') (sym p) (subst (λ x. Running (r + 1) x ms') (sym q) (subst (λ x. Running (r + 1) (set fs i false) x) (sym s) (running_more r fs ms i c run e)))
 
   pub running_done : (r : ℕ) (fs : List Bool) (ms : List Mark) → Running r fs ms → next_drop bs priced fs ≡ None → outcome fs ms r ≡ rounds_of bs priced
   running_done r fs ms run e = sym (rounds_stop (next_drop bs priced) (count fs) r fs ms e) ∙ run.3

@@ -1,5 +1,5 @@
 -- The shares of an hour: the one rule over the rows is the kinds served in turn, and what it comes to after a clearing.
-use Rattle.std.proofs.Common.{◌≡◌, ℕ, ◌+◌, ◌-◌, ◌<◌, List, map, length, get_or, None, sum_by, Option, sym, refl, ap, ◌∙◌, arith}
+use Rattle.std.proofs.Common.{◌≡◌, ℕ, ◌+◌, ◌-◌, ◌<◌, max, List, map, length, get_or, None, sum_by, Option, sym, refl, ap, ◌∙◌, arith}
 use Rattle.std.specs.List.{range_with_len}
 use Rattle.std.proofs.lemmas.List.{length-map, get_or-map}
 use Rattle.allocation.specs.declared.block.BlockClaim.{BlockClaim}
@@ -19,11 +19,11 @@ use Rattle.clearing.specs.declared.marks.Mark.TheVariants.{Kept}
 use Rattle.clearing.specs.Blocks.{blocks_of}
 use Rattle.clearing.specs.Clearing.{tabled}
 use Rattle.clearing.specs.Claims.{HourClaim, place_kind, block_kind, market_kind, limit_kind, row_kind, is_kept, block_claim, market_of, limit_of, row_claim, row_claims}
-use Rattle.clearing.specs.Sharing.{largest, largest_of, served_in_turn, side_shares}
-use Rattle.clearing.proofs.Tabled.{tabled_at, tabled_length, tabled_by, map_twice}
+use Rattle.clearing.specs.Sharing.{both_sides, largest, largest_of, served_in_turn, side_shares}
+use Rattle.clearing.proofs.Tabled.{tabled_at, tabled_length, tabled_by, map_by_place, map_twice}
 use Rattle.clearing.proofs.Joined.{first_of, second_of, third_of, first_out, second_out, third_out, row_share}
 use Rattle.clearing.proofs.Rowed.{one_claim}
-use Rattle.clearing.proofs.Cleared.{blocks_at, blocks_length}
+use Rattle.clearing.proofs.Cleared.{blocks_at}
 
 -- the rankings keep their laws
 pub row_laws : RankLaws row_kind.stamp row_kind.before
@@ -42,8 +42,9 @@ map_tabled f g n = sym (map_twice f g (range_with_len 0 n))
 tabled_same : {A : Type 0} (f g : ℕ → A) (n : ℕ) (d : A) → ((k : ℕ) → k < n → f k ≡ g k) → tabled f n ≡ tabled g n
 tabled_same f g n d same = tabled_by g (tabled f n) n d (tabled_length f n) (λ k l. tabled_at f n k d l ∙ same k l)
 
-map_places : {B : Type 0} (f : Place → B) (d : B) (ps : List Place) → map f ps ≡ tabled (λ k. f (place_at ps k)) (length ps)
-map_places f d ps = tabled_by (λ k. f (place_at ps k)) (map f ps) (length ps) d (length-map ps f) (λ k l. get_or-map f ps k vacant d l)
+-- the larger of two tables, taken twice
+pub joined : (xs ys zs : List ℕ) (n : ℕ) → both_sides xs (both_sides ys zs n) n ≡ tabled (largest_of xs ys zs) n
+joined xs ys zs n = tabled_same _ _ n 0 (λ k l. ap (max (get_or xs k 0)) (tabled_at (λ j. max (get_or ys j 0) (get_or zs j 0)) n k 0 l))
 
 module _ (ps : List Place) (sets : List ℕ) (ms : List Mark) (h t : ℕ) (side : Side) (within : h < 24) where
   abbrev cs : List (Option HourClaim)
@@ -58,21 +59,20 @@ module _ (ps : List Place) (sets : List ℕ) (ms : List Mark) (h t : ℕ) (side 
   at : (k : ℕ) → k < n → get_or cs k None ≡ row_claim ps sets ms h t side k
   at k l = tabled_at (row_claim ps sets ms h t side) n k None l
 
-  pub first_is : tabled (λ k. block_claim (is_kept (get_or ms k Kept)) side h (get_or (blocks_of sets ps) k None)) (length (blocks_of sets ps)) ≡ map first_of cs
+  pub first_is : tabled (λ k. block_claim (is_kept (get_or ms k Kept)) side h (get_or (blocks_of sets ps) k None)) n ≡ map first_of cs
   first_is =
-      ap (tabled (λ k. block_claim (is_kept (get_or ms k Kept)) side h (get_or (blocks_of sets ps) k None))) (blocks_length sets ps)
-      ∙ tabled_same _ (λ k. first_of (row_claim ps sets ms h t side k)) n None (λ k l. ap (block_claim (is_kept (get_or ms k Kept)) side h) (blocks_at sets ps k l) ∙ sym (first_out _ (market_of (h + 1) side (place_at ps k)) (limit_of (h + 1) side t (place_at ps k))))
+      tabled_same _ (λ k. first_of (row_claim ps sets ms h t side k)) n None (λ k l. ap (block_claim (is_kept (get_or ms k Kept)) side h) (blocks_at sets ps k l) ∙ sym (first_out _ (market_of (h + 1) side (place_at ps k)) (limit_of (h + 1) side t (place_at ps k))))
       ∙ sym (map_tabled first_of (row_claim ps sets ms h t side) n)
 
   pub second_is : map (market_of (h + 1) side) ps ≡ map second_of cs
   second_is =
-      map_places (market_of (h + 1) side) None ps
+      map_by_place (market_of (h + 1) side) vacant None ps
       ∙ tabled_same _ (λ k. second_of (row_claim ps sets ms h t side k)) n None (λ k l. sym (second_out _ _ _ (one_claim sets (is_kept (get_or ms k Kept)) side h t (place_at ps k) within)))
       ∙ sym (map_tabled second_of (row_claim ps sets ms h t side) n)
 
   pub third_is : map (limit_of (h + 1) side t) ps ≡ map third_of cs
   third_is =
-      map_places (limit_of (h + 1) side t) None ps
+      map_by_place (limit_of (h + 1) side t) vacant None ps
       ∙ tabled_same _ (λ k. third_of (row_claim ps sets ms h t side k)) n None (λ k l. sym (third_out _ _ _ (one_claim sets (is_kept (get_or ms k Kept)) side h t (place_at ps k) within)))
       ∙ sym (map_tabled third_of (row_claim ps sets ms h t side) n)
 

@@ -1,8 +1,10 @@
 -- Loops that write every place of a table: f of each index, f of each row, or the new value where the old one does not serve.
-use Rattle.std.proofs.Common.{◌≡◌, ℕ, ◌+◌, ◌<◌, ◌≤◌, List, [], ◌∷◌, ◌++◌, map, length, get_or, take, set, sym, refl, ap, ◌∙◌, inl, inr, arith}
+use Rattle.std.proofs.Common.{◌≡◌, ℕ, zero, suc, ◌+◌, ◌<◌, ◌≤◌, List, [], ◌∷◌, ◌++◌, map, length, get_or, take, set, sym, refl, ap, ◌∙◌, subst, inl, inr, arith}
+use denote.Param.Members.{Mut, Called}
+use Rattle.std.specs.Array.{IsFromFnResult, IsFromFnResultFrom}
 use Rattle.std.specs.List.{range_with_len}
 use Rattle.std.proofs.lemmas.Bool.{cases_eq}
-use Rattle.std.proofs.lemmas.List.{length-set, take_more_set, map_more, take_all, get_or-set_same, get_or-set_other}
+use Rattle.std.proofs.lemmas.List.{length-map, get_or-map, length-set, take_more_set, take_all, get_or-set_same, get_or-set_other}
 use Rattle.std.proofs.lemmas.List.FromFn.{map-range_with_len_more, length-map-range_with_len, get_or-map-range_with_len, fill_by_all}
 use Rattle.clearing.specs.Clearing.{tabled}
 
@@ -18,6 +20,23 @@ pub tabled_by : {A : Type 0} (f : ℕ → A) (xs : List A) (n : ℕ) (d : A) →
 unfolding tabled
 tabled_by f xs n d long at = fill_by_all f xs n d long at
 
+-- an array whose places come from calls of a closure that stays the same
+made_at : {F A : Type 0} (g : Mut F (ℕ × Unit {0}) A) (f : F) (h : ℕ → A) (m : ℕ) → ((k : ℕ) (y : A) (q : F) → k < m → Called g f (k, tt) y q → (y ≡ h k) × (q ≡ f)) → (ys : List A) (i n : ℕ) (p : F) → i + n ≤ m → p ≡ f → IsFromFnResultFrom g p ys i n → (k : ℕ) (d : A) → i ≤ k → k < i + n → get_or ys k d ≡ h k
+made_at g f h m same ys i zero p fits e r k d low high = absurd (omega arith)
+made_at {F} {A} g f h m same ys i (suc n) p fits e r k d low high =
+    let here : (r.1 ≡ h i) × (r.0 ≡ f) = same i r.1 r.0 (omega arith) (subst (λ (x : F). Called g x (i, tt) r.1 r.0) e r.3) in
+    elim (cases_eq k i) [
+      | inl s ↦ ap (λ j. get_or ys j d) s ∙ r.2.1 d ∙ here.0 ∙ ap h (sym s)
+      | inr ne ↦ made_at g f h m same ys (i + 1) n r.0 (omega arith) here.1 r.4 k d (omega (arith, ne)) (omega arith)
+    ]
+
+pub made_by : {F A : Type 0} (g : Mut F (ℕ × Unit {0}) A) (f : F) (h : ℕ → A) (n : ℕ) (d : A) → ((k : ℕ) (y : A) (q : F) → k < n → Called g f (k, tt) y q → (y ≡ h k) × (q ≡ f)) → (ys : List A) → IsFromFnResult g f ys n → ys ≡ tabled h n
+made_by g f h n d same ys r = tabled_by h ys n d r.long (λ k l. made_at g f h n same ys 0 n f (omega arith) refl r.each k d (omega arith) (omega arith))
+
+-- f of each row is the table of f at each place
+pub map_by_place : {X Y : Type 0} (f : X → Y) (d : X) (e : Y) (xs : List X) → map f xs ≡ tabled (λ k. f (get_or xs k d)) (length xs)
+map_by_place f d e xs = tabled_by (λ k. f (get_or xs k d)) (map f xs) (length xs) e (length-map xs f) (λ k l. get_or-map f xs k d e l)
+
 abbrev pub Filled : {A : Type 0} → ℕ → (ℕ → A) → List A → ℕ → Type 0
 Filled n f xs i = (i ≤ n) × (length xs ≡ n) × (take i xs ≡ tabled f i)
 
@@ -32,18 +51,6 @@ filled_more n f xs i y h e p =
 
 pub filled_all : {A : Type 0} (n : ℕ) (f : ℕ → A) (xs : List A) (i : ℕ) → n ≤ i → Filled n f xs i → xs ≡ tabled f n
 filled_all n f xs i h p = sym (take_all i xs (omega (arith, p.1))) ∙ p.2 ∙ ap (tabled f) (omega (arith, p.0))
-
-abbrev pub Mapped : {X Y : Type 0} → (X → Y) → List X → List Y → ℕ → Type 0
-Mapped f xs ys i = (length ys ≡ length xs) × (take i ys ≡ map f (take i xs))
-
-pub mapped_more : {X Y : Type 0} (f : X → Y) (xs : List X) (ys : List Y) (i : ℕ) (x : X) (y : Y) → i < length xs → x ≡ get_or xs i x → y ≡ f x → Mapped f xs ys i → Mapped f xs (set ys i y) (i + 1)
-mapped_more f xs ys i x y h read is so = (
-  length-set ys i y ∙ so.0,
-  take_more_set ys i y (omega (arith, so.0)) ∙ ap (λ l. l ++ y ∷ []) so.1 ∙ ap (λ v. map f (take i xs) ++ v ∷ []) (is ∙ ap f read) ∙ sym (map_more f xs i x h),
-)
-
-pub mapped_all : {X Y : Type 0} (f : X → Y) (xs : List X) (ys : List Y) (i : ℕ) → length xs ≤ i → Mapped f xs ys i → ys ≡ map f xs
-mapped_all f xs ys i h so = sym (take_all i ys (omega (arith, so.0))) ∙ so.1 ∙ ap (map f) (take_all i xs h)
 
 pub map_twice : {X Y Z : Type 0} (f : Y → Z) (g : X → Y) (xs : List X) → map (λ x. f (g x)) xs ≡ map f (map g xs)
 map_twice f g [] = refl
@@ -65,16 +72,6 @@ mixed_put n new old d xs i y h e m = (
     | inr ne ↦ get_or-set_other xs i k y d ne ∙ m.1 k (omega (arith, ne))
   ]),
   λ k l o. get_or-set_other xs i k y d (λ s. absurd (omega (arith, s))) ∙ m.2 k (omega arith) o,
-)
-
-pub mixed_keep : {A : Type 0} (n : ℕ) (new old : ℕ → A) (d : A) (xs : List A) (i : ℕ) → i < n → old i ≡ new i → Mixed n new old d xs i → Mixed n new old d xs (i + 1)
-mixed_keep n new old d xs i h e m = (
-  m.0,
-  (λ k l. elim (cases_eq k i) [
-    | inl s ↦ m.2 k (omega (arith, s)) (omega (arith, s)) ∙ ap old s ∙ e ∙ ap new (sym s)
-    | inr ne ↦ m.1 k (omega (arith, ne))
-  ]),
-  λ k l o. m.2 k (omega arith) o,
 )
 
 pub mixed_all : {A : Type 0} (n : ℕ) (new old : ℕ → A) (d : A) (xs : List A) (i : ℕ) → n ≤ i → Mixed n new old d xs i → xs ≡ tabled new n

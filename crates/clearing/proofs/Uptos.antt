@@ -1,5 +1,6 @@
--- The steps of `upto` and `any_upto`.
-use Rattle.std.proofs.Common.{◌≡◌, ℕ, zero, suc, ◌+◌, ◌<◌, Bool, true, false, ◌||◌, sym, refl, ap, ◌∙◌, inl, inr, add-one, arith}
+-- The steps of `upto` and `any_upto`, and a sum over a list as one below its length.
+use Rattle.std.proofs.Common.{◌≡◌, ℕ, zero, suc, ◌+◌, ◌<◌, ◌≤◌, Bool, true, false, ◌||◌, List, length, get_or, take, sum_by, sym, refl, ap, ◌∙◌, inl, inr, add-one, arith}
+use Rattle.std.proofs.lemmas.List.Sums.{sum_by_more}
 use Rattle.std.proofs.lemmas.Bool.{cases_lt, or_left, or_right}
 use Rattle.clearing.specs.Upto.{upto, any_upto}
 
@@ -27,3 +28,16 @@ any_from p (suc n) k h e =
       | inl l ↦ or_left (any_upto p n) (p n) (any_from p n k l e)
       | inr g ↦ or_right (any_upto p n) (p n) (let s : k ≡ n = omega arith in ap p (sym s) ∙ e)
     ]
+
+pub upto_same : (f g : ℕ → ℕ) (n : ℕ) → ((k : ℕ) → k < n → f k ≡ g k) → upto f n ≡ upto g n
+unfolding upto
+upto_same f g zero same = refl
+upto_same f g (suc n) same = omega (arith, same n (omega arith), upto_same f g n (λ k l. same k (omega arith)))
+
+pub sum_upto : {X : Type 0} (f : X → ℕ) (d : X) (xs : List X) (n : ℕ) → n ≤ length xs → upto (λ k. f (get_or xs k d)) n ≡ sum_by f (take n xs)
+unfolding upto
+sum_upto f d xs zero h = refl
+sum_upto f d xs (suc n) h =
+    let one : n + 1 ≡ suc n = omega arith in
+    let more = sum_by_more f xs n d (omega arith) in
+    omega (arith, sum_upto f d xs n (omega arith), more, ap (λ m. sum_by f (take m xs)) one)

@@ -10,6 +10,8 @@ use Rattle.allocation.specs.Precedence.{block_before, market_before, limit_befor
 use Rattle.areas.specs.Area.{offer_area}
 use Rattle.curves.specs.declared.sides.Side.{Side}
 use Rattle.curves.specs.Offers.{Form, flat, stairs, slopes, offer_shows}
+use Rattle.book.specs.declared.entries.Entry.{Entry}
+use Rattle.book.specs.Views.{entry_of}
 use Rattle.book.specs.Bids.{Bid, Place, vacant, held}
 use Rattle.book.specs.Places.{place_at}
 use Rattle.book.specs.Shown.{same_side}
@@ -67,6 +69,11 @@ limit_bid b t (slopes ps) = Some (record { area = offer_area b.offer t; volume =
 -- is this bid for the hour, from 1, and on the side?
 abbrev pub bids_in : ℕ → Side → Bid → Bool
 bids_in hour side b = b.product == hour && same_side b.offer.side side
+
+-- the entry of a row, if it is one of the hour and side
+abbrev pub entry_in : ℕ → Side → Option Entry → Option Entry
+entry_in hour side None = None
+entry_in hour side (Some e) = cond (bids_in hour side (entry_of e)) (Some e) None
 
 abbrev pub market_of : ℕ → Side → Place → Option MarketClaim
 market_of hour side vacant = None

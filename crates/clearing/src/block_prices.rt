@@ -9,19 +9,23 @@ use faults::fault::{Fault, Refusal};
 
 // The mean of `count` prices, half a cent upward.
 fn mean(sum: u64, count: u64) -> u64
-    requires { (1 ≤ count) × ((count ≤ day_hours) × (sum ≤ count * 4294967295)) }
+    requires some { 1 ≤ count }
+    requires few { count ≤ day_hours }
+    requires fits { sum ≤ count * 4294967295 }
     ensures { result ≡ mean_up sum count }
 {
     (2 * sum + count) / (2 * count)
 }
 
 fn mean_price(hours: u32, results: &[HourResult]) -> u32
-    requires { (1 ≤ hours) × ((hours ≤ 16777215) × (length results.now ≡ day_hours)) }
+    requires some { 1 ≤ hours }
+    requires few { hours ≤ 16777215 }
+    requires whole { length results.now ≡ day_hours }
     ensures { result ≡ block_price hours results.now }
 {
     let count = hour_count(hours);
     let sum = price_sum(hours, results);
-    mean(sum, count as u64) as u32
+    mean(sum, u64::from(count)) as u32
 }
 
 // The price of a block with this set of hours, at the results of the day's hours.
@@ -31,7 +35,7 @@ pub fn block_price(hours: u32, results: &[HourResult]) -> Result<u32, Fault>
     if results.len() != 24 {
         return Err(Refusal::WrongLength.without_text());
     }
-    if hours < 1 || hours > 16_777_215 {
+    if !(1..=16_777_215).contains(&hours) {
         return Err(Refusal::OutOfRange(0).without_text());
     }
     Ok(mean_price(hours, results))

@@ -11,7 +11,7 @@ use curves::sides::Side;
 #[derive(Clone, Copy)]
 pub(crate) struct Block {
     pub(crate) side: Side,
-    // The set of its hours.
+    // The set of its hours, as the number that the file and every definition have.
     pub(crate) hours: u32,
     pub(crate) volume: u32,
     // A market block has none.
@@ -29,7 +29,8 @@ impl Block {
             return false;
         };
         let total = price_sum(self.hours, results);
-        let stake = limit as u64 * hour_count(self.hours) as u64;
+        // A cast, since the proof reads the limit's range from it.
+        let stake = limit as u64 * u64::from(hour_count(self.hours));
         match self.side {
             Side::Buy => total > stake,
             Side::Sell => total < stake,
@@ -42,7 +43,7 @@ impl Block {
     {
         BlockClaim {
             hours: hour_count(self.hours),
-            volume: self.volume as u64,
+            volume: u64::from(self.volume),
             stamp: self.stamp,
         }
     }

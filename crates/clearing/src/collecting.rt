@@ -11,15 +11,15 @@ use book::rows::Row;
 use curves::curves::Curve;
 use curves::orders::Order;
 use curves::pairs::Pair;
+use std::array;
 
 // The volume and the limit of one pair.
 fn single_terms(pairs: &[Pair]) -> Option<(u32, Option<u32>)>
     ensures { result ≡ single_terms (points pairs.now) }
 {
-    if pairs.len() != 1 {
+    let [pair] = pairs else {
         return None;
-    }
-    let pair = pairs[0];
+    };
     Some((pair.volume, Some(pair.tick)))
 }
 
@@ -29,7 +29,7 @@ fn block_terms(order: &Order) -> Option<(u32, Option<u32>)>
 {
     match order {
         Order::Market(market) => Some((market.volume, None)),
-        Order::Step(step) => single_terms(&step.chain.pairs[0..step.chain.count]),
+        Order::Step(step) => single_terms(step.chain.pairs()),
         Order::Linear(_) => None,
     }
 }
@@ -37,18 +37,9 @@ fn block_terms(order: &Order) -> Option<(u32, Option<u32>)>
 fn block_of(row: &Row, products: &Blocks) -> Option<Block>
     ensures { result ≡ block_of (sets_of products.now) (place_of row.now) }
 {
-    let Row::Held(entry) = row else {
-        return None;
-    };
-    if entry.product <= 24 {
-        return None;
-    }
-    let Some(hours) = products.get(entry.product as usize - 25) else {
-        return None;
-    };
-    let Some((volume, limit)) = block_terms(&entry.order) else {
-        return None;
-    };
+    let entry = (*row)?;
+    let hours = products.get((entry.product as usize).checked_sub(25)?)?;
+    let (volume, limit) = block_terms(&entry.order)?;
     Some(Block {
         side: entry.order.side(),
         hours,
@@ -59,12 +50,10 @@ fn block_of(row: &Row, products: &Blocks) -> Option<Block>
 }
 
 // A place for each row: its block order, if it holds one.
-pub(crate) fn collect(rows: &[Row], products: &Blocks, blocks: &mut [Option<Block>])
-    requires { length blocks.old ≡ length rows.now }
-    ensures is { blocks.new ≡ blocks_of (sets_of products.now) (places rows.now) }
-    ensures small { small_blocks blocks.new ≡ true }
+pub(crate) fn collect(rows: &[Row], products: &Blocks) -> [Option<Block>; 256]
+    requires { length rows.now ≡ 256 }
+    ensures is { result ≡ blocks_of (sets_of products.now) (places rows.now) }
+    ensures small { small_blocks result ≡ true }
 {
-    for (i, row) in rows.iter().enumerate() {
-        blocks[i] = block_of(row, products);
-    }
+    array::from_fn(|i| block_of(&rows[i], products))
 }

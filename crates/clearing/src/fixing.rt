@@ -5,7 +5,6 @@ ghost use Rattle.clearing.specs.Hours.{day_hours};
 ghost use Rattle.clearing.specs.Clearing.{ticks, clearing, clearing_of};
 ghost use Rattle.clearing.specs.Fixing.{right_tables, fix_answer, BlocksCleared, HoursPriced};
 
-use crate::blocks::Block;
 use crate::collecting::collect;
 use crate::days::Day;
 use crate::marks::Mark;
@@ -23,13 +22,14 @@ fn clear(
     hours: &mut [HourResult],
     marks: &mut [Mark],
 ) -> u32
-    requires { (length rows.now ≡ 256) × ((length hours.old ≡ day_hours) × (length marks.old ≡ 256)) }
+    requires ordered { length rows.now ≡ 256 }
+    requires whole { length hours.old ≡ day_hours }
+    requires marked { length marks.old ≡ 256 }
     ensures is { clearing result hours.new marks.new ≡ clearing_of (places rows.now) (sets_of blocks.now) (ticks references.now) }
     ensures cleared { BlocksCleared (places rows.now) (sets_of blocks.now) (ticks references.now) result hours.new marks.new }
     ensures priced { HoursPriced (places rows.now) (sets_of blocks.now) (ticks references.now) result hours.new marks.new }
 {
-    let mut orders: [Option<Block>; 256] = [None; 256];
-    collect(rows, blocks, &mut orders);
+    let orders = collect(rows, blocks);
     let mut standing = [true; 256];
     let day = Day {
         rows,

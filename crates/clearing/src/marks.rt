@@ -6,6 +6,7 @@ pub enum Cause {
 }
 
 // Whether a block was dropped: in which round, and why.
+// No option: an operator reads these two words, and a block that stands lacks nothing.
 #[derive(Clone, Copy, PartialEq, Eq, Debug)]
 pub enum Mark {
     Kept,

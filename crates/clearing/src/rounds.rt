@@ -2,11 +2,12 @@
 ghost use Rattle.std.specs.Prelude.{◌≡◌, ℕ, ◌+◌, ◌<◌, ◌≤◌, Bool, true, false, List, length, set, slice_set};
 ghost use Rattle.clearing.specs.declared.results.HourResult.{HourResult};
 ghost use Rattle.clearing.specs.Hours.{day_hours};
+ghost use Rattle.clearing.specs.Blocks.{small_blocks};
 ghost use Rattle.clearing.specs.Rounds.{outcome, rounds_of};
 
 use crate::blocks::Block;
-use crate::failing::lowest_failing;
-use crate::marks::{Cause, Mark};
+use crate::failing::Field;
+use crate::marks::Mark;
 use crate::results::HourResult;
 
 // The results of the hours, for each set of standing blocks.
@@ -17,28 +18,21 @@ pub(crate) trait Pricer {
     ghost known: { Self → ℕ };
 
     fn price(&self, standing: &[bool], results: &mut [HourResult])
-        requires { (length standing.now ≡ known self.now) × (length results.old ≡ day_hours) }
+        requires even { length standing.now ≡ known self.now }
+        requires whole { length results.old ≡ day_hours }
         ensures { results.new ≡ priced self.now standing.now };
 
     // The same after a block was dropped, from what the hours had before.
     fn reprice(&self, standing: &[bool], dropped: usize, results: &mut [HourResult])
-        requires { (length standing.now ≡ known self.now) × ((dropped < length standing.now) × ((length results.old ≡ day_hours) × (results.old ≡ priced self.now (slice_set standing.now dropped true)))) }
+        requires even { length standing.now ≡ known self.now }
+        requires placed { dropped < length standing.now }
+        requires whole { length results.old ≡ day_hours }
+        requires before { results.old ≡ priced self.now (slice_set standing.now dropped true) }
         ensures { results.new ≡ priced self.now standing.now };
 }
 
-// Drops block `i` in a round, and answers the next one.
-fn drop_block(standing: &mut [bool], marks: &mut [Mark], i: usize, round: u32, cause: Cause) -> u32
-    requires { (i < length standing.old) × ((i < length marks.old) × (round ≤ 256)) }
-    ensures standing { standing.new ≡ slice_set standing.old i false }
-    ensures marks { marks.new ≡ slice_set marks.old i (Mark.Dropped round cause) }
-    ensures next { result ≡ round + 1 }
-{
-    standing[i] = false;
-    marks[i] = Mark::Dropped(round, cause);
-    round + 1
-}
-
-// Runs the rounds, and answers how many there were.
+// Runs the rounds, and answers how many there were. Its tables come apart: it writes two of them while a `Field` reads the
+// others.
 pub(crate) fn settle<P: Pricer>(
     pricer: &P,
     blocks: &[Option<Block>],
@@ -46,7 +40,12 @@ pub(crate) fn settle<P: Pricer>(
     marks: &mut [Mark],
     results: &mut [HourResult],
 ) -> u32
-    requires { (length blocks.now ≤ 256) × ((length standing.old ≡ length blocks.now) × ((length marks.old ≡ length blocks.now) × ((P.known pricer.now ≡ length blocks.now) × (length results.old ≡ day_hours)))) }
+    requires few { length blocks.now ≤ 256 }
+    requires small { small_blocks blocks.now ≡ true }
+    requires even { length standing.old ≡ length blocks.now }
+    requires marked { length marks.old ≡ length blocks.now }
+    requires known { P.known pricer.now ≡ length blocks.now }
+    requires whole { length results.old ≡ day_hours }
     ensures rounds { outcome standing.new marks.new result ≡ rounds_of blocks.now (P.priced pricer.now) }
     ensures results { results.new ≡ P.priced pricer.now standing.new }
 {
@@ -54,11 +53,11 @@ pub(crate) fn settle<P: Pricer>(
     marks.fill(Mark::Kept);
     let mut round = 1;
     pricer.price(standing, results);
-    loop {
-        let Some((i, cause)) = lowest_failing(blocks, standing, results) else {
-            return round;
-        };
-        round = drop_block(standing, marks, i, round, cause);
+    while let Some((i, cause)) = (Field { blocks, standing }).lowest_failing(results) {
+        standing[i] = false;
+        marks[i] = Mark::Dropped(round, cause);
+        round += 1;
         pricer.reprice(standing, i, results);
     }
+    round
 }

@@ -1,12 +1,15 @@
 // The shares of an hour: on each side its volume goes to the standing blocks, then to market orders, then to limit orders.
-ghost use Rattle.std.specs.Prelude.{◌≡◌, ◌-◌, ◌≤◌, max, length, MatchResult, OnOk};
+ghost use Rattle.std.specs.Prelude.{◌≡◌, ◌+◌, ◌-◌, map, length, None, slice_index_or, MatchResult, OnOk};
 ghost use Rattle.book.specs.Views.{places, sets_of};
+ghost use Rattle.clearing.specs.declared.marks.Mark.TheVariants.{Kept};
 ghost use Rattle.clearing.specs.Clearing.{tabled};
-ghost use Rattle.clearing.specs.Sharing.{shares_refused, shared_out, largest, largest_of, served_in_turn, both_sides, side_shares, hour_shares, HourShared};
+ghost use Rattle.clearing.specs.Claims.{is_kept, block_claim, market_of, limit_of};
+ghost use Rattle.clearing.specs.Sharing.{shares_refused, shared_out, both_sides, served_in_turn, side_shares, hour_shares, HourShared};
 
 use crate::blocks::Block;
-use crate::claims::{block_claims, limit_claims, market_claims};
+use crate::claims::{block_claim, limit_claim, market_claim};
 use crate::collecting::collect;
+use crate::hours::Hour;
 use crate::marks::Mark;
 use crate::results::HourResult;
 use allocation::block::BlockClaim;
@@ -18,36 +21,13 @@ use book::rows::Row;
 use curves::sides::Side;
 use curves::ticks::Tick;
 use faults::fault::{Fault, Refusal};
+use std::array;
 
-// A row has a claim of one kind at most, so the largest of the three shares is its own.
-fn largest_of(first: u64, second: u64, third: u64) -> u64
-    ensures { result ≡ largest first second third }
+// A row has a share of one kind at most, and on one side, so the larger of two shares is its own.
+fn larger(xs: &[u64; 256], ys: &[u64; 256]) -> [u64; 256]
+    ensures { result ≡ both_sides xs.now ys.now 256 }
 {
-    first.max(second.max(third))
-}
-
-fn join_kinds(first: &[u64; 256], second: &[u64; 256], third: &[u64; 256], shares: &mut [u64; 256])
-    ensures { shares.new ≡ tabled (largest_of first.now second.now third.now) 256 }
-{
-    for i in 0..256 {
-        shares[i] = largest_of(first[i], second[i], third[i]);
-    }
-}
-
-// A row stands on one side, so the larger of the two shares is its own.
-fn larger_of(bought: u64, sold: u64) -> u64
-    ensures { result ≡ max bought sold }
-{
-    bought.max(sold)
-}
-
-fn join_sides(buys: &[u64; 256], sells: &[u64; 256], shares: &mut [u64])
-    requires { length shares.old ≡ 256 }
-    ensures { shares.new ≡ both_sides buys.now sells.now 256 }
-{
-    for i in 0..256 {
-        shares[i] = larger_of(buys[i], sells[i]);
-    }
+    array::from_fn(|i| xs[i].max(ys[i]))
 }
 
 // Serves blocks, then market orders, then limit orders.
@@ -56,9 +36,8 @@ fn serve_kinds(
     blocks: &[Option<BlockClaim>; 256],
     markets: &[Option<MarketClaim>; 256],
     limits: &[Option<LimitClaim>; 256],
-    shares: &mut [u64; 256],
-)
-    ensures { shares.new ≡ served_in_turn volume blocks.now markets.now limits.now 256 }
+) -> [u64; 256]
+    ensures { result ≡ served_in_turn volume blocks.now markets.now limits.now 256 }
 {
     let mut to_blocks = [0; 256];
     let mut to_markets = [0; 256];
@@ -73,7 +52,7 @@ fn serve_kinds(
         &mut to_limits,
     )
     .unwrap();
-    join_kinds(&to_blocks, &to_markets, &to_limits, shares);
+    larger(&to_blocks, &larger(&to_markets, &to_limits))
 }
 
 // What is shared out on a side.
@@ -87,74 +66,58 @@ fn shared_out(res: &HourResult, filled: u64, side: Side) -> u64
     }
 }
 
-// The shares of the rows on one side of an hour, counted from 1.
-fn side_shares(
-    rows: &[Row],
-    products: &Blocks,
-    marks: &[Mark],
-    hour: u8,
+// What an hour is shared out by, at its price.
+#[derive(Clone, Copy)]
+struct Tables<'r, 'p, 'm> {
+    rows: &'r [Row],
+    products: &'p Blocks,
+    marks: &'m [Mark],
+    hour: Hour,
     price: Tick,
-    side: Side,
-    volume: u64,
-    shares: &mut [u64; 256],
-)
-    requires { (length rows.now ≡ 256) × ((length marks.now ≡ 256) × ((1 ≤ hour) × (hour ≤ 24))) }
-    ensures { shares.new ≡ side_shares (places rows.now) (sets_of products.now) marks.now (hour - 1) price.value side volume }
-{
-    let mut blocks: [Option<Block>; 256] = [None; 256];
-    let mut standing: [Option<BlockClaim>; 256] = [None; 256];
-    let mut markets: [Option<MarketClaim>; 256] = [None; 256];
-    let mut limits: [Option<LimitClaim>; 256] = [None; 256];
-    collect(rows, products, &mut blocks);
-    block_claims(&blocks, marks, side, hour as u32 - 1, &mut standing);
-    market_claims(rows, hour, side, &mut markets);
-    limit_claims(rows, hour, side, price, &mut limits);
-    serve_kinds(volume, &standing, &markets, &limits, shares);
+    ghost whole: { length rows.now ≡ 256 },
+    ghost marked: { length marks.now ≡ 256 },
 }
 
-// The shares on both sides of an hour, in one table.
-fn share_sides(
-    rows: &[Row],
-    products: &Blocks,
-    marks: &[Mark],
-    hour: u8,
-    price: Tick,
-    res: &HourResult,
-    filled: u64,
-    shares: &mut [u64],
-)
-    requires tables { (length rows.now ≡ 256) × ((length marks.now ≡ 256) × (length shares.old ≡ 256)) }
-    requires low { 1 ≤ hour }
-    requires high { hour ≤ 24 }
-    requires priced { price.value ≡ res.now.price }
-    ensures is { shares.new ≡ hour_shares (places rows.now) (sets_of products.now) marks.now (hour - 1) res.now filled }
-    ensures shared { HourShared (places rows.now) (sets_of products.now) marks.now (hour - 1) res.now filled }
-{
-    let mut buys = [0; 256];
-    let mut sells = [0; 256];
-    let bought = shared_out(res, filled, Side::Buy);
-    let sold = shared_out(res, filled, Side::Sell);
-    side_shares(
-        rows,
-        products,
-        marks,
-        hour,
-        price,
-        Side::Buy,
-        bought,
-        &mut buys,
-    );
-    side_shares(
-        rows,
-        products,
-        marks,
-        hour,
-        price,
-        Side::Sell,
-        sold,
-        &mut sells,
-    );
-    join_sides(&buys, &sells, shares);
+impl<'r, 'p, 'm> Tables<'r, 'p, 'm> {
+    fn block_claims(&self, blocks: &[Option<Block>; 256], side: Side) -> [Option<BlockClaim>; 256]
+        ensures { result ≡ tabled (λ k. block_claim (is_kept (slice_index_or self.now.marks.now k Kept)) side self.now.hour.index (slice_index_or blocks.now k None)) 256 }
+    {
+        array::from_fn(|i| block_claim(&blocks[i], self.marks[i], side, self.hour))
+    }
+
+    fn market_claims(&self, side: Side) -> [Option<MarketClaim>; 256]
+        ensures { result ≡ map (market_of (self.now.hour.index + 1) side) (places self.now.rows.now) }
+    {
+        array::from_fn(|i| market_claim(&self.rows[i], self.hour, side))
+    }
+
+    fn limit_claims(&self, side: Side) -> [Option<LimitClaim>; 256]
+        ensures { result ≡ map (limit_of (self.now.hour.index + 1) side self.now.price.value) (places self.now.rows.now) }
+    {
+        array::from_fn(|i| limit_claim(&self.rows[i], self.hour, side, self.price))
+    }
+
+    // The shares of the rows on one side.
+    fn shares(&self, side: Side, volume: u64) -> [u64; 256]
+        ensures { result ≡ side_shares (places self.now.rows.now) (sets_of self.now.products.now) self.now.marks.now self.now.hour.index self.now.price.value side volume }
+    {
+        let placed = collect(self.rows, self.products);
+        let blocks = self.block_claims(&placed, side);
+        let markets = self.market_claims(side);
+        let limits = self.limit_claims(side);
+        serve_kinds(volume, &blocks, &markets, &limits)
+    }
+
+    // The shares on both sides, in one table.
+    fn both_shares(&self, res: &HourResult, filled: u64) -> [u64; 256]
+        requires { self.now.price.value ≡ res.now.price }
+        ensures is { result ≡ hour_shares (places self.now.rows.now) (sets_of self.now.products.now) self.now.marks.now self.now.hour.index res.now filled }
+        ensures shared { HourShared (places self.now.rows.now) (sets_of self.now.products.now) self.now.marks.now self.now.hour.index res.now filled }
+    {
+        let bought = self.shares(Side::Buy, shared_out(res, filled, Side::Buy));
+        let sold = self.shares(Side::Sell, shared_out(res, filled, Side::Sell));
+        larger(&bought, &sold)
+    }
 }
 
 // Writes each row's share of an hour, counted from 1, of which `filled` was sold or bought after the auction.
@@ -174,13 +137,15 @@ pub fn hour_shares(
     if rows.len() != 256 || marks.len() != 256 || shares.len() != 256 {
         return Err(Refusal::WrongLength.without_text());
     }
-    if hour < 1 || hour > 24 {
-        return Err(Refusal::OutOfRange(0).without_text());
-    }
-    let price = match Tick::new(res.price) {
-        Ok(price) => price,
-        Err(fault) => return Err(fault),
+    let hour = Hour::numbered(hour)?;
+    let price = Tick::new(res.price)?;
+    let tables = Tables {
+        rows,
+        products: blocks,
+        marks,
+        hour,
+        price,
     };
-    share_sides(rows, blocks, marks, hour, price, res, filled, shares);
+    shares.copy_from_slice(&tables.both_shares(res, filled));
     Ok(())
 }

@@ -43,16 +43,12 @@ fn entered(
             count: 1,
         }),
     };
-    let ticket = match admit(&draft, 1) {
-        Ok(ticket) => ticket,
-        Err(fault) => return Err(fault),
-    };
-    enter(rows, given, &ticket)
+    enter(rows, given, &admit(&draft, 1)?)
 }
 
 #[test]
 fn a_block_is_dropped_by_loss(rt: HostRuntime) -> Result<(), Fail> {
-    let mut rows = [Row::Empty; 256];
+    let mut rows = [None; 256];
     let mut blocks = Blocks::none();
     blocks.push(3)?;
     entered(&mut rows, 0, 1, Side::Sell, 4000, 10)?;
@@ -73,7 +69,7 @@ fn a_block_is_dropped_by_loss(rt: HostRuntime) -> Result<(), Fail> {
 
 #[test]
 fn the_larger_area_is_served_first(rt: HostRuntime) -> Result<(), Fail> {
-    let mut rows = [Row::Empty; 256];
+    let mut rows = [None; 256];
     let blocks = Blocks::none();
     entered(&mut rows, 0, 1, Side::Buy, 6000, 100)?;
     entered(&mut rows, 1, 1, Side::Buy, 7000, 50)?;

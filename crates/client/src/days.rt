@@ -18,14 +18,9 @@ fn fix_first(
     marks: &mut [Mark],
     draft: &Draft,
 ) -> Result<Fixed, Fault> {
-    let (open, _) = match open.enter(rows, draft) {
-        Ok(entered) => entered,
-        Err(refused) => return Err(refused.1),
-    };
-    match open.fix(rows, hours, marks) {
-        Ok(fixed) => Ok(fixed.0),
-        Err(refused) => Err(refused.1),
-    }
+    let (open, _) = open.enter(rows, draft).map_err(|refused| refused.1)?;
+    let (fixed, _) = open.fix(rows, hours, marks).map_err(|refused| refused.1)?;
+    Ok(fixed)
 }
 
 // Recalls a fixed day to change the order, and fixes it again. A day that cannot be recalled is confirmed as it stands.
@@ -38,20 +33,14 @@ fn fix_again(
 ) -> Result<Fixed, Fault> {
     let (open, _) = match fixed.recall(hours, marks) {
         Ok(recalled) => recalled,
-        Err(refused) => {
-            let (fixed, fault) = refused;
+        Err((fixed, fault)) => {
             let _ = fixed.confirm();
             return Err(fault);
         }
     };
-    let (open, _) = match open.change(rows, draft) {
-        Ok(changed) => changed,
-        Err(refused) => return Err(refused.1),
-    };
-    match open.fix(rows, hours, marks) {
-        Ok(fixed) => Ok(fixed.0),
-        Err(refused) => Err(refused.1),
-    }
+    let (open, _) = open.change(rows, draft).map_err(|refused| refused.1)?;
+    let (fixed, _) = open.fix(rows, hours, marks).map_err(|refused| refused.1)?;
+    Ok(fixed)
 }
 
 // Takes one post order and ends the day.
@@ -63,10 +52,7 @@ fn post_once(
 ) -> Result<Final, Fault>
     ensures { IfOk result (λ day. day.posted ≡ post.posted + 1) }
 {
-    let (post, _) = match post.post(hours, posts, order) {
-        Ok(posted) => posted,
-        Err(refused) => return Err(refused.1),
-    };
+    let (post, _) = post.post(hours, posts, order).map_err(|refused| refused.1)?;
     let (day, _) = post.finish();
     Ok(day)
 }
@@ -84,14 +70,8 @@ pub fn whole_day(
 ) -> Result<Final, Fault>
     ensures { IfOk result (λ day. day.posted ≡ 1) }
 {
-    let fixed = match fix_first(open, rows, hours, marks, first) {
-        Ok(fixed) => fixed,
-        Err(fault) => return Err(fault),
-    };
-    let fixed = match fix_again(fixed, rows, hours, marks, second) {
-        Ok(fixed) => fixed,
-        Err(fault) => return Err(fault),
-    };
+    let fixed = fix_first(open, rows, hours, marks, first)?;
+    let fixed = fix_again(fixed, rows, hours, marks, second)?;
     let (post, _) = fixed.confirm();
     post_once(post, hours, posts, order)
 }

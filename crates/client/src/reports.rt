@@ -15,10 +15,7 @@ use phases::writing::Written;
 pub fn hour_price<D: Prices>(day: &D, hours: &[HourResult], hour: u8) -> Result<u32, Fault>
     ensures { result ≡ viewed (λ x. x.price) (result_in hours.now hour) }
 {
-    match day.result(hours, hour) {
-        Ok(result) => Ok(result.price),
-        Err(fault) => Err(fault),
-    }
+    day.result(hours, hour).map(|published| published.price)
 }
 
 // The text of a day that is over.

@@ -1,64 +1,93 @@
--- The walk along the pairs that are asked for.
-use Rattle.std.proofs.Common.{◌≡◌, ℕ, zero, suc, ◌+◌, ◌-◌, ◌<◌, ◌≤◌, Bool, true, false, cond, ltb, leb, List, [], ◌∷◌, length, get_or, drop, Ok, Err, Result, sym, refl, ap, ◌∙◌, arith}
+-- What is asked for, number by number and pair by pair.
+use Rattle.std.proofs.Common.{◌≡◌, ℕ, ◌+◌, ◌<◌, ◌≤◌, Bool, true, false, cond, ltb, leb, List, [], ◌∷◌, ◌++◌, length, get_or, take, drop, set, Ok, Err, Result, sym, refl, ap, ◌∙◌, arith}
 use lib.ListN.{length-map}
-use Rattle.std.proofs.lemmas.List.{at_drop_more, at_drop_all, drop_more}
-use Rattle.std.proofs.lemmas.Bool.{and_from}
+use Rattle.std.proofs.lemmas.List.{at_drop_more, at_drop_all, take_more, take_more_set, map_push}
+use Rattle.std.proofs.lemmas.Bool.{and_from, cond-true, cond-false}
 use Rattle.std.proofs.lemmas.Bool.Decides.{nat_tests}
 use Rattle.faults.specs.declared.fault.Fault.{Fault}
 use Rattle.faults.specs.declared.fault.Refusal.TheVariants.{TickNotAbove, VolumeTurned}
 use Rattle.faults.specs.Refusals.{fault}
 use Rattle.faults.specs.Answers.{out_of_range}
 use Rattle.curves.specs.declared.sides.Side.{Side}
+use Rattle.curves.specs.declared.pairs.Pair.{Pair}
 use Rattle.curves.specs.declared.quotes.Quote.{Quote}
 use Rattle.curves.specs.Points.{Point}
 use Rattle.curves.specs.Ranges.{bad_count}
-use Rattle.curves.specs.Sequences.{turns, ordered, bad_point, wild, paired, pairs_verdict}
-use Rattle.curves.specs.Views.{quoted, quotes}
-use Rattle.curves.specs.Chained.{Ranged}
+use Rattle.curves.specs.Sequences.{turns, ordered, bad_point, pair_asked, wild, paired, pairs_verdict}
+use Rattle.curves.specs.Views.{point, points, quoted, quotes}
 
 abbrev pub no_quote : Quote
 no_quote = record { tick = 0; volume = 0 }
 
-pub wild_step : (ss : List Quote) (i : ℕ) → i < length ss → wild (quotes (drop i ss)) ≡ cond (bad_point (quoted (get_or ss i no_quote))) true (wild (quotes (drop (i + 1) ss)))
+-- the answer of a test that has passed, and of one that has failed
+abbrev pub tested : {A : Type 0} → Bool → A → Result A Fault
+tested b x = cond b (Err out_of_range) (Ok x)
+
+pub tested_err : {A : Type 0} (b : Bool) (x : A) (f : Fault) → ◌≡◌ {A = Result A Fault} (Err f) (tested b x) → (b ≡ true) × (f ≡ out_of_range)
+tested_err true x f e = (refl, cc)
+tested_err false x f e = absurd (let z : ◌≡◌ {A = ℕ} 0 1 = cc in omega arith)
+
+pub tested_ok : {A : Type 0} (b : Bool) (x y : A) → ◌≡◌ {A = Result A Fault} (Ok y) (tested b x) → (b ≡ false) × (y ≡ x)
+tested_ok true x y e = absurd (let z : ◌≡◌ {A = ℕ} 0 1 = cc in omega arith)
+tested_ok false x y e = (refl, cc)
+
+-- one number pair of a walk over those that are asked for
+wild_step : (qs : List Quote) (i : ℕ) → i < length qs → wild (quotes (drop i qs)) ≡ cond (bad_point (quoted (get_or qs i no_quote))) true (wild (quotes (drop (i + 1) qs)))
 unfolding wild quotes
-wild_step ss i h = at_drop_more (λ (xs : List Quote). wild (quotes xs)) ss i no_quote h
+wild_step qs i h = at_drop_more (λ (xs : List Quote). wild (quotes xs)) qs i no_quote h
 
-pub wild_end : (ss : List Quote) (i : ℕ) → length ss ≤ i → wild (quotes (drop i ss)) ≡ false
+pub wild_end : (qs : List Quote) (i : ℕ) → length qs ≤ i → wild (quotes (drop i qs)) ≡ false
 unfolding wild quotes
-wild_end ss i h = at_drop_all (λ (xs : List Quote). wild (quotes xs)) ss i h
+wild_end qs i h = at_drop_all (λ (xs : List Quote). wild (quotes xs)) qs i h
 
-abbrev pub pair_verdict : Side → ℕ → Quote → Quote → Result (Unit {0}) Fault → Result (Unit {0}) Fault
-pair_verdict side k p q rest = cond (leb q.tick p.tick) (Err (fault (TickNotAbove k) 0)) (cond (turns side p.volume q.volume) rest (Err (fault (VolumeTurned k) 0)))
+pub wild_here : (qs : List Quote) (i : ℕ) (f : Fault) → i < length qs → ◌≡◌ {A = Result Point Fault} (Err f) (pair_asked (quoted (get_or qs i no_quote))) → (wild (quotes (drop i qs)) ≡ true) × (f ≡ out_of_range)
+wild_here qs i f h e =
+    let t = tested_err (bad_point (quoted (get_or qs i no_quote))) (quoted (get_or qs i no_quote)) f e in
+    (wild_step qs i h ∙ cond-true _ _ _ t.0, t.1)
 
-pub paired_step : (side : Side) (k : ℕ) (ss : List Quote) (i : ℕ) → 1 ≤ i → i < length ss →
-    paired side k (quotes (drop (i - 1) ss)) ≡ pair_verdict side k (get_or ss (i - 1) no_quote) (get_or ss i no_quote) (paired side (k + 1) (quotes (drop i ss)))
-unfolding paired quotes
-paired_step side k ss i low h =
-    let e : i - 1 + 1 ≡ i = omega arith in
-    let first : drop (i - 1) ss ≡ get_or ss (i - 1) no_quote ∷ drop i ss = drop_more ss (i - 1) no_quote (omega arith) ∙ ap (λ (n : ℕ). get_or ss (i - 1) no_quote ∷ drop n ss) e in
-    let second : drop i ss ≡ get_or ss i no_quote ∷ drop (i + 1) ss = drop_more ss i no_quote h in
-    ap (λ (xs : List Quote). paired side k (quotes xs)) (first ∙ ap (λ (xs : List Quote). get_or ss (i - 1) no_quote ∷ xs) second)
-    ∙ ap (λ (xs : List Quote). pair_verdict side k (get_or ss (i - 1) no_quote) (get_or ss i no_quote) (paired side (k + 1) (quotes xs))) (sym second)
+pub tame_here : (qs : List Quote) (i : ℕ) (p : Pair) → i < length qs → ◌≡◌ {A = Result Point Fault} (Ok (point p)) (pair_asked (quoted (get_or qs i no_quote))) → (wild (quotes (drop i qs)) ≡ wild (quotes (drop (i + 1) qs))) × (point p ≡ quoted (get_or qs i no_quote))
+tame_here qs i p h e =
+    let t = tested_ok (bad_point (quoted (get_or qs i no_quote))) (quoted (get_or qs i no_quote)) (point p) e in
+    (wild_step qs i h ∙ cond-false _ _ _ t.0, t.1)
 
-pub paired_end : (side : Side) (k : ℕ) (ss : List Quote) (i : ℕ) → length ss ≤ i + 1 → paired side k (quotes (drop i ss)) ≡ Ok tt
-unfolding paired quotes
-paired_end side k [] zero h = refl
-paired_end side k [] (suc i) h = refl
-paired_end side k (p ∷ []) zero h = refl
-paired_end side k (p ∷ q ∷ ps) zero h = absurd (omega arith)
-paired_end side k (p ∷ ps) (suc i) h = paired_end side k ps i (omega arith)
+-- one pair more at the front of the array
+pub points_more : (ps : List Pair) (qs : List Quote) (i : ℕ) (p : Pair) → i < length ps → i < length qs → point p ≡ quoted (get_or qs i no_quote)
+    → points (take i ps) ≡ quotes (take i qs) → points (take (i + 1) (set ps i p)) ≡ quotes (take (i + 1) qs)
+unfolding quotes
+points_more ps qs i p hp hq e inv =
+    ap points (take_more_set ps i p hp)
+    ∙ (map_push point (take i ps) p
+    ∙ (ap (λ (xs : List Point). xs ++ (point p ∷ [])) inv
+    ∙ (ap (λ (x : Point). quotes (take i qs) ++ (x ∷ [])) e
+    ∙ (sym (map_push quoted (take i qs) (get_or qs i no_quote))
+    ∙ ap quotes (sym (take_more qs i no_quote hq))))))
 
-never : {X : Type 0} (x : X) (f : Fault) → ◌≡◌ {A = Result X Fault} (Err f) (Ok x) → ⊥
-never x f e = let z : ◌≡◌ {A = ℕ} 0 1 = cc in omega arith
+pub no_points : points [] ≡ quotes []
+unfolding quotes
+no_points = refl
+
+-- one turn over neighbours
+pub paired_turn : (side : Side) (k : ℕ) (xs rest : List Pair) (p q : Pair) → (xs ≡ p ∷ rest) × (rest ≡ q ∷ drop 1 rest) →
+    paired side k (points xs) ≡ cond (leb q.tick p.tick) (Err (fault (TickNotAbove k) 0)) (cond (turns side p.volume q.volume) (paired side (k + 1) (points rest)) (Err (fault (VolumeTurned k) 0)))
+unfolding paired
+paired_turn side k xs rest p q e =
+    ap (λ (ys : List Pair). paired side k (points ys)) (e.0 ∙ ap (λ (ys : List Pair). p ∷ ys) e.1)
+    ∙ ap (λ (ys : List Pair). cond (leb q.tick p.tick) (Err (fault (TickNotAbove k) 0)) (cond (turns side p.volume q.volume) (paired side (k + 1) (points ys)) (Err (fault (VolumeTurned k) 0)))) (sym e.1)
+
+pub paired_over : (side : Side) (k : ℕ) (xs : List Pair) → length xs < 2 → paired side k (points xs) ≡ Ok tt
+unfolding paired
+paired_over side k [] h = refl
+paired_over side k (p ∷ []) h = refl
+paired_over side k (p ∷ q ∷ xs) h = absurd (omega arith)
 
 -- a test that would have refused did not hold
-pub err_first : (b : Bool) (f : Fault) (x : Result (Unit {0}) Fault) → cond b (Err f) x ≡ Ok tt → (b ≡ false) × (x ≡ Ok tt)
-err_first true f x e = absurd (never tt f e)
+err_first : (b : Bool) (f : Fault) (x : Result (Unit {0}) Fault) → cond b (Err f) x ≡ Ok tt → (b ≡ false) × (x ≡ Ok tt)
+err_first true f x e = absurd (let z : ◌≡◌ {A = ℕ} 0 1 = cc in omega arith)
 err_first false f x e = (refl, e)
 
-pub err_last : (b : Bool) (f : Fault) (x : Result (Unit {0}) Fault) → cond b x (Err f) ≡ Ok tt → (b ≡ true) × (x ≡ Ok tt)
+err_last : (b : Bool) (f : Fault) (x : Result (Unit {0}) Fault) → cond b x (Err f) ≡ Ok tt → (b ≡ true) × (x ≡ Ok tt)
 err_last true f x e = (refl, e)
-err_last false f x e = absurd (never tt f e)
+err_last false f x e = absurd (let z : ◌≡◌ {A = ℕ} 0 1 = cc in omega arith)
 
 above : (a b : ℕ) → leb b a ≡ false → ltb a b ≡ true
 above a b e = grind (arith, nat_tests)
@@ -72,35 +101,20 @@ paired_ordered side k (p ∷ q ∷ ps) e =
     let b = err_last (turns side p.volume q.volume) (fault (VolumeTurned k) 0) _ a.1 in
     and_from _ _ (and_from _ _ (above p.tick q.tick a.0) b.0) (paired_ordered side (k + 1) (q ∷ ps) b.1)
 
-pub quotes_long : (qs : List Quote) → length (quotes qs) ≡ length qs
-unfolding quotes
-quotes_long qs = length-map qs quoted
+-- the verdict, as far as the tests have come
+module _ (side : Side) (qs : List Quote) where
+  quotes_long : length (quotes qs) ≡ length qs
+  unfolding quotes
+  quotes_long = length-map qs quoted
 
-count_good : (n : ℕ) → bad_count n ≡ false → (1 ≤ n) × (n ≤ 8)
-count_good n e = (grind (arith, nat_tests), grind (arith, nat_tests))
+  pub verdict_count : bad_count (length qs) ≡ true → pairs_verdict side (quotes qs) ≡ Err out_of_range
+  unfolding pairs_verdict
+  verdict_count h = cond-true (bad_count (length (quotes qs))) _ _ (ap bad_count quotes_long ∙ h)
 
--- what a list of pairs without a refusal is
-pub record Proper (side : Side) (ps : List Point) : Type 0 where
-  pub some : 1 ≤ length ps
-  pub fits : length ps ≤ 8
-  pub tame : wild ps ≡ false
-  pub lined : ordered side ps ≡ true
+  pub verdict_wild : bad_count (length qs) ≡ false → wild (quotes qs) ≡ true → pairs_verdict side (quotes qs) ≡ Err out_of_range
+  unfolding pairs_verdict
+  verdict_wild h w = cond-false (bad_count (length (quotes qs))) _ _ (ap bad_count quotes_long ∙ h) ∙ cond-true (wild (quotes qs)) _ _ w
 
-pub pairs_proper : (side : Side) (ps : List Point) → pairs_verdict side ps ≡ Ok tt → Proper side ps
-unfolding pairs_verdict
-pairs_proper side ps e =
-    let a = err_first (bad_count (length ps)) out_of_range _ e in
-    let b = err_first (wild ps) out_of_range _ a.1 in
-    let n = count_good (length ps) a.0 in
-    record { some = n.0; fits = n.1; tame = b.0; lined = paired_ordered side 2 ps b.1 }
-
--- every pair of a tame list is in range
-first_ranged : (p : Point) (t : Bool) → bad_point p ≡ t → (x : Bool) → cond t true x ≡ false → Ranged p × (x ≡ false)
-first_ranged p true e x f = absurd (let z : ◌≡◌ {A = ℕ} 0 1 = cc in omega arith)
-first_ranged p false e x f = (record { low = grind (arith, nat_tests); high = grind (arith, nat_tests); some = grind (arith, nat_tests); few = grind (arith, nat_tests) }, f)
-
-pub ranged_at : (qs : List Quote) (i : ℕ) → wild (quotes qs) ≡ false → i < length qs → Ranged (quoted (get_or qs i no_quote))
-unfolding quotes wild
-ranged_at [] i e h = absurd (omega arith)
-ranged_at (q ∷ qs) zero e h = (first_ranged (quoted q) (bad_point (quoted q)) refl (wild (quotes qs)) e).0
-ranged_at (q ∷ qs) (suc i) e h = ranged_at qs i (first_ranged (quoted q) (bad_point (quoted q)) refl (wild (quotes qs)) e).1 (omega arith)
+  pub verdict_pairs : bad_count (length qs) ≡ false → wild (quotes qs) ≡ false → pairs_verdict side (quotes qs) ≡ paired side 2 (quotes qs)
+  unfolding pairs_verdict
+  verdict_pairs h w = cond-false (bad_count (length (quotes qs))) _ _ (ap bad_count quotes_long ∙ h) ∙ cond-false (wild (quotes qs)) _ _ w

@@ -1,16 +1,13 @@
 -- The price by the two ends of the range without excess.
-use Rattle.std.proofs.Common.{◌≡◌, ℕ, ◌+◌, ◌-◌, ◌<◌, ◌≤◌, true, false, cond, not, ◌&&◌, ltb, ◌⊎◌, Ok, Err, Result, sym, refl, ◌∙◌, subst, inl, inr, arith}
+use Rattle.std.proofs.Common.{◌≡◌, ℕ, ◌+◌, ◌-◌, ◌<◌, ◌≤◌, true, false, cond, not, ltb, ◌⊎◌, min, max, sym, refl, ◌∙◌, subst, inl, inr, arith}
 use Rattle.std.proofs.lemmas.Bool.{cases_lt, cond-true, cond-false, ltb-true, ltb-false, leb-true, leb-false, eq-eqb, ne_eqb, lt-ltb, le-ltb, le-leb, lt-leb, not_from_true, not_from_false}
 use Rattle.curves.specs.Tables.{Falls, Rises, Turned}
 use Rattle.curves.specs.declared.sides.Side.{Side}
 use Rattle.curves.specs.declared.sides.Side.TheVariants.{Buy, Sell}
 use Rattle.curves.specs.Ladder.{least_tick, highest_tick, some_tick, every_tick}
 use Rattle.std.proofs.lemmas.Bool.Decides.{nat_tests}
-use Rattle.curves.specs.Ranges.{bad_tick}
 use Rattle.curves.specs.Halving.{passes}
-use Rattle.curves.specs.Price.{even, over, under, nearest, prefer, better, price_of, executed, surplus, Best, answer, is_buy, is_sell}
-use Rattle.faults.specs.declared.fault.Fault.{Fault}
-use Rattle.faults.specs.Answers.{out_of_range}
+use Rattle.curves.specs.Price.{even, over, under, nearest, prefer, better, price_of, executed, surplus, Best}
 use Rattle.curves.proofs.Ladders.{least_same, Least, least_is, highest_is, least_has}
 
 pub record Parted (b s : ℕ → ℕ) (from past : ℕ) : Type 0 where
@@ -147,6 +144,9 @@ prefer_cases eh sh el sl h l ref =
 pub nearest_within : (lo hi ref : ℕ) → lo ≤ hi → (lo ≤ nearest lo hi ref) × (nearest lo hi ref ≤ hi)
 nearest_within lo hi ref h = grind (arith, nat_tests)
 
+pub nearest_clamped : (lo hi ref : ℕ) → lo ≤ hi → nearest lo hi ref ≡ max lo (min ref hi)
+nearest_clamped lo hi ref h = grind (arith, nat_tests)
+
 -- a tick of the ladder at which nothing is left to gain
 pub record Settled (b s : ℕ → ℕ) (p : ℕ) : Type 0 where
   pub low : 1 ≤ p
@@ -268,15 +268,6 @@ module _ (b s : ℕ → ℕ) (falls : Falls b) (rises : Rises s) where
 pub settled_price : (b s : ℕ → ℕ) (sb ss : Side) (ref : ℕ) → sb ≡ Buy → ss ≡ Sell → Turned sb b → Turned ss s → 1 ≤ ref → ref ≤ 300000 → Settled b s (price_of b s ref)
 settled_price b s sb ss ref eb es tb ts low high =
     settled b s (subst (λ (x : Side). Turned x b) eb tb) (subst (λ (x : Side). Turned x s) es ts) ref low high
-
-pub answered : (sb ss : Side) (b s : ℕ → ℕ) (ref r e x : ℕ) → sb ≡ Buy → ss ≡ Sell → 1 ≤ ref → ref ≤ 300000 → r ≡ price_of b s ref → e ≡ executed b s r → x ≡ surplus b s r → ◌≡◌ {A = Result (ℕ × ℕ × ℕ) Fault} (Ok (r, e, x)) (answer sb b ss s ref)
-answered sb ss b s ref r e x eb es low high er ee ex =
-    let p : ℕ = price_of b s ref in
-    let ok : Result (ℕ × ℕ × ℕ) Fault = Ok (p, executed b s p, surplus b s p) in
-    let t : bad_tick ref ≡ false = grind (arith, nat_tests) in
-    let q : (is_buy sb && is_sell ss) ≡ true = rw (eb, es) refl in
-    let same : ◌≡◌ {A = Result (ℕ × ℕ × ℕ) Fault} (Ok (r, e, x)) ok = rw (ee, ex, er) refl in
-    same ∙ sym (cond-false (bad_tick ref) (Err out_of_range) (cond (is_buy sb && is_sell ss) ok (Err out_of_range)) t ∙ cond-true (is_buy sb && is_sell ss) ok (Err out_of_range) q)
 
 -- the price sees the ticks alone
 module _ (b s b' s' : ℕ → ℕ) (falls : Falls b) (rises : Rises s) (falls' : Falls b') (rises' : Rises s')

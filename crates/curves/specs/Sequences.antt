@@ -27,6 +27,10 @@ ordered side (p ∷ ps) = follows side p ps && ordered side ps
 abbrev pub bad_point : Point → Bool
 bad_point p = bad_tick p.tick || bad_volume p.volume
 
+-- the pair, or its refusal
+abbrev pub pair_asked : Point → Result Point Fault
+pair_asked p = cond (bad_point p) (Err out_of_range) (Ok p)
+
 unfoldable pub wild : List Point → Bool
 wild [] = false
 wild (p ∷ ps) = cond (bad_point p) true (wild ps)

@@ -4,6 +4,7 @@
 pub mod building;
 pub mod chains;
 pub mod curves;
+pub mod ends;
 pub mod lines;
 pub mod loads;
 pub mod making;

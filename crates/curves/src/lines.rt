@@ -1,4 +1,4 @@
-// A linear order: straight lines between its pairs.
+// A linear order: straight lines between its pairs. A kind of its own beside the step order, with a table of its own.
 ghost use Rattle.std.specs.Prelude.{take};
 ghost use Rattle.curves.specs.Lines.{line_shows};
 ghost use Rattle.curves.specs.Steps.{open_end};
@@ -10,9 +10,8 @@ use crate::chains::Chain;
 use crate::curves::Curve;
 use crate::sides::Side;
 use crate::ticks::Tick;
-use crate::walks::{line_at, step_at};
 
-#[derive(Clone, Copy)]
+#[derive(Clone, Copy, Debug)]
 pub struct Linear {
     pub chain: Chain,
 }
@@ -35,18 +34,10 @@ impl Curve for Linear {
     }
 
     fn volume_at(&self, tick: Tick) -> u64 {
-        let pairs = &self.chain.pairs[0..self.chain.count];
-        line_at(
-            pairs,
-            tick.get(),
-            step_at(self.chain.side, pairs, tick.get()),
-        )
+        self.chain.line_at(tick.get())
     }
 
     fn greatest(&self) -> u64 {
-        match self.chain.side {
-            Side::Buy => self.volume_at(Tick::at(1)),
-            Side::Sell => self.volume_at(Tick::at(300_000)),
-        }
+        self.volume_at(self.chain.side.open_end())
     }
 }

@@ -1,8 +1,8 @@
 // A load: any curve with a fixed volume added at every tick.
-ghost use Rattle.std.specs.Prelude.{◌≡◌, ℕ, ◌+◌, ◌<◌, ◌≤◌, Ok, Err};
+ghost use Rattle.std.specs.Prelude.{◌≡◌, ℕ, ◌+◌, ◌<◌, ◌≤◌, MatchResult, IfOk};
 ghost use Rattle.curves.specs.Loads.{capped, loaded_answer};
 ghost use Rattle.faults.specs.Answers.{out_of_range};
-ghost use Rattle.std.proofs.Common.{rules, arith};
+ghost use Rattle.std.proofs.Common.{rules};
 
 use crate::curves::Curve;
 use crate::prices::price;
@@ -21,8 +21,8 @@ pub struct Load<C: Curve> {
 impl<C: Curve + Drop> Load<C> {
     // Refused where the greatest volume would pass 100,000,000.
     pub fn new(curve: C, volume: u64) -> Result<Load<C>, Fault>
-        ensures made { elim result [ Ok l ↦ (l.curve ≡ curve) × (l.volume ≡ volume) × (C.Curve.most curve + volume ≤ 100000000) | Err e ↦ (e ≡ out_of_range) × (100000000 < C.Curve.most curve + volume) ] }
-        ensures sum { elim result [ Ok l ↦ ((t : ℕ) → 1 ≤ t → t ≤ 300000 → capped l.volume (C.Curve.shows l.curve t) ≡ C.Curve.shows curve t + volume) | Err e ↦ Unit {0} ] }
+        ensures made { MatchResult result (λ l. (l.curve ≡ curve) × (l.volume ≡ volume) × (C.Curve.most curve + volume ≤ 100000000)) (λ e. (e ≡ out_of_range) × (100000000 < C.Curve.most curve + volume)) }
+        ensures sum { IfOk result (λ l. (t : ℕ) → 1 ≤ t → t ≤ 300000 → capped l.volume (C.Curve.shows l.curve t) ≡ C.Curve.shows curve t + volume) }
     {
         if volume > 100_000_000 || curve.greatest() + volume > 100_000_000 {
             return Err(Refusal::OutOfRange(0).without_text());
@@ -38,9 +38,9 @@ impl<C: Curve> Curve for Load<C> {
 
     ghost most = { λ l. capped l.volume (C.Curve.most l.curve) };
 
-    ghost turned = { first_of (Prim.search rules, Prim.grind (arith, Self.row.coded.inj)) };
+    ghost turned = { Prim.search rules };
 
-    ghost bounded = { first_of (Prim.search rules, Prim.grind (arith, Self.row.coded.inj)) };
+    ghost bounded = { Prim.search rules };
 
     fn side(&self) -> Side {
         self.curve.side()
@@ -55,7 +55,8 @@ impl<C: Curve> Curve for Load<C> {
     }
 }
 
-// The price of an hour with a fixed volume added to each of its two curves.
+// The price of an hour with a fixed volume added to each of its two curves. Plain numbers, for each is refused by a rule of
+// its own.
 pub fn price_with_loads<B: Curve + Drop, S: Curve + Drop>(
     buy: B,
     bought: u64,

@@ -29,10 +29,8 @@ impl Step {
     pub fn new(side: Side, asked: &[Quote]) -> Result<Step, Fault>
         ensures { viewed step_of result ≡ pairs_asked stairs side (quotes asked.now) }
     {
-        match Chain::new(side, asked) {
-            Ok(chain) => Ok(Step { chain }),
-            Err(fault) => Err(fault),
-        }
+        let chain = Chain::new(side, asked)?;
+        Ok(Step { chain })
     }
 }
 
@@ -40,9 +38,7 @@ impl Linear {
     pub fn new(side: Side, asked: &[Quote]) -> Result<Linear, Fault>
         ensures { viewed linear_of result ≡ pairs_asked slopes side (quotes asked.now) }
     {
-        match Chain::new(side, asked) {
-            Ok(chain) => Ok(Linear { chain }),
-            Err(fault) => Err(fault),
-        }
+        let chain = Chain::new(side, asked)?;
+        Ok(Linear { chain })
     }
 }

@@ -1,12 +1,12 @@
 // A market order: one volume at every tick.
 ghost use Rattle.std.specs.Prelude.{◌≤◌};
-ghost use Rattle.std.proofs.Common.{rules, arith};
+ghost use Rattle.std.proofs.Common.{rules};
 
 use crate::curves::Curve;
 use crate::sides::Side;
 use crate::ticks::Tick;
 
-#[derive(Clone, Copy)]
+#[derive(Clone, Copy, PartialEq, Eq, Debug)]
 pub struct Market {
     pub side: Side,
     pub volume: u32,
@@ -21,19 +21,19 @@ impl Curve for Market {
 
     ghost most = { λ m. m.volume };
 
-    ghost turned = { first_of (Prim.search rules, Prim.grind (arith, Self.row.coded.inj)) };
+    ghost turned = { Prim.search rules };
 
-    ghost bounded = { first_of (Prim.search rules, Prim.grind (arith, Self.row.coded.inj)) };
+    ghost bounded = { Prim.search rules };
 
     fn side(&self) -> Side {
         self.side
     }
 
     fn volume_at(&self, _tick: Tick) -> u64 {
-        u64::from(self.volume)
+        self.greatest()
     }
 
     fn greatest(&self) -> u64 {
-        self.volume as u64
+        u64::from(self.volume)
     }
 }

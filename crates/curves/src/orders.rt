@@ -3,7 +3,7 @@ use crate::lines::Linear;
 use crate::markets::Market;
 use crate::steps::Step;
 
-#[derive(Clone, Copy)]
+#[derive(Clone, Copy, Debug)]
 pub enum Order {
     Market(Market),
     Step(Step),

@@ -1,7 +1,7 @@
-// A tick and a volume, each in its range.
+// A tick and a volume, each in its range: plain numbers, as texts and definitions have them.
 ghost use Rattle.std.specs.Prelude.{◌≤◌};
 
-#[derive(Clone, Copy)]
+#[derive(Clone, Copy, PartialEq, Eq, Debug)]
 pub struct Pair {
     pub tick: u32,
     pub volume: u32,

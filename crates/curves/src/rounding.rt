@@ -3,9 +3,9 @@ ghost use Rattle.std.specs.Prelude.{◌≡◌};
 ghost use Rattle.curves.specs.Lines.{nudge};
 
 // What is added to n before n / d is cut: nothing, so that the value is rounded down.
-pub fn rounding(d: u64) -> u64
-    ensures { result ≡ nudge d }
+#[tactic(auto, unfolding(crate::specs::Lines::nudge))]
+pub fn rounding(_d: u64) -> u64
+    ensures { result ≡ nudge _d }
 {
-    let _ = d;
     0
 }

@@ -8,9 +8,8 @@ use crate::chains::Chain;
 use crate::curves::Curve;
 use crate::sides::Side;
 use crate::ticks::Tick;
-use crate::walks::step_at;
 
-#[derive(Clone, Copy)]
+#[derive(Clone, Copy, Debug)]
 pub struct Step {
     pub chain: Chain,
 }
@@ -35,17 +34,10 @@ impl Curve for Step {
     }
 
     fn volume_at(&self, tick: Tick) -> u64 {
-        step_at(
-            self.chain.side,
-            &self.chain.pairs[0..self.chain.count],
-            tick.get(),
-        )
+        self.chain.step_at(tick.get())
     }
 
     fn greatest(&self) -> u64 {
-        match self.chain.side {
-            Side::Buy => self.volume_at(Tick::at(1)),
-            Side::Sell => self.volume_at(Tick::at(300_000)),
-        }
+        self.volume_at(self.chain.side.open_end())
     }
 }

@@ -5,7 +5,7 @@ ghost use Rattle.faults.specs.Answers.{viewed};
 
 use faults::fault::{Fault, Refusal};
 
-#[derive(Clone, Copy)]
+#[derive(Clone, Copy, PartialEq, Eq, PartialOrd, Ord, Debug)]
 pub struct Tick {
     value: u32,
     ghost low: { 1 ≤ value },
@@ -13,11 +13,15 @@ pub struct Tick {
 }
 
 impl Tick {
-    // Refused where the number is off the ladder.
+    pub const FIRST: Tick = Tick { value: 1 };
+
+    pub const LAST: Tick = Tick { value: 300_000 };
+
+    // Refused where the number is off the ladder. `new` and `get`, as a number that is not zero has them.
     pub fn new(value: u32) -> Result<Tick, Fault>
         ensures { viewed (λ t. t.value) result ≡ tick_asked value }
     {
-        if value < 1 || value > 300_000 {
+        if !(1..=300_000).contains(&value) {
             return Err(Refusal::OutOfRange(0).without_text());
         }
         Ok(Tick { value })

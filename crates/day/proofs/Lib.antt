@@ -1,4 +1,2 @@
 pub mod Drafting
-pub mod Turning
 pub mod Opened
-pub mod Valued

@@ -1,6 +1,5 @@
 -- A day that a load opens.
-use Rattle.std.proofs.Common.{◌≡◌, ℕ, List, [], ap, arith}
-use Rattle.faults.specs.declared.fault.Fault.{Fault}
+use Rattle.std.proofs.Common.{◌≡◌, ℕ, List, []}
 use Rattle.book.specs.Bids.{Place}
 use Rattle.clearing.specs.declared.marks.Mark.{Mark}
 use Rattle.clearing.specs.declared.results.HourResult.{HourResult}
@@ -24,8 +23,4 @@ opened_got (got d r ds) op q cs ps rs ms fs e p hours marks posts =
     let at : q ≡ r = cc in
     let bytes : cs ≡ ds = cc in
     λ i. got (opened_by (h i) (p i) (hours i) (marks i) (posts i)) (at i) (bytes i)
-opened_got (refused f) op q cs ps rs ms fs e p hours marks posts = let z : ◌≡◌ {A = ℕ} 0 1 = cc in absurd (omega arith)
-
-pub opened_refused : (o : Outcome DayText) (f : Fault) → refused f ≡ load_head o → refused f ≡ onward o (λ d r ds. got (opened_day d) r ds)
-opened_refused (got d r ds) f e = let z : ◌≡◌ {A = ℕ} 0 1 = cc in absurd (omega arith)
-opened_refused (refused g) f e = let same : f ≡ g = cc in ap refused same
+opened_got (refused f) op q cs ps rs ms fs e p hours marks posts = absurd cc

@@ -1,5 +1,5 @@
 // Any call on a day in any phase.
-ghost use Rattle.std.specs.Prelude.{◌≡◌, ◌+◌, ◌<◌, length, OnErr};
+ghost use Rattle.std.specs.Prelude.{◌≡◌, length, OnErr, Err as Refused};
 ghost use Rattle.book.specs.Views.{sets_of};
 ghost use Rattle.calls.specs.declared.calls.Call.TheVariants.{Enter, Change, Withdraw, Fix, Recall, Confirm, Post, Finish};
 ghost use Rattle.calls.specs.Moves.{move_of};
@@ -11,7 +11,7 @@ use crate::days::Day;
 use crate::entering::{change_draft, enter_draft};
 use crate::judging::judge;
 use crate::phases::Phase;
-use crate::zeroing::zero;
+use book::blanks::clear;
 use book::drafts::Draft;
 use book::entering::withdraw;
 use calls::calls::Call;
@@ -20,33 +20,23 @@ use clearing::fixing::fix;
 use faults::fault::{Fault, Refusal};
 use posting::posting::post;
 
-// One place more of the post list is used.
-fn one_more(posted: usize) -> usize
-    requires { posted < 128 }
-    ensures { result ≡ posted + 1 }
-{
-    posted + 1
-}
-
 impl Day {
+    // Each call promises what `call` does, in the words of one definition. `enter` and `change` differ in the call that each
+    // makes; one function over that call would be longer than both.
     fn enter(&mut self, draft: &Draft) -> Result<u32, Fault>
         requires { self.old.phase ≡ InOpen }
         ensures gives { result ≡ answer (day_of self.old) (move_of (Enter draft.now)) }
         ensures leaves { day_of self.new ≡ left (day_of self.old) (move_of (Enter draft.now)) result }
         ensures kept { OnErr result (self.new ≡ self.old) }
     {
-        match enter_draft(
+        let stamp = enter_draft(
             &mut self.rows,
             self.opening.given,
             self.opening.blocks.len(),
             draft,
-        ) {
-            Ok(stamp) => {
-                self.opening.given = stamp;
-                Ok(stamp)
-            }
-            Err(fault) => Err(fault),
-        }
+        )?;
+        self.opening.given = stamp;
+        Ok(stamp)
     }
 
     fn change(&mut self, draft: &Draft) -> Result<u32, Fault>
@@ -55,18 +45,14 @@ impl Day {
         ensures leaves { day_of self.new ≡ left (day_of self.old) (move_of (Change draft.now)) result }
         ensures kept { OnErr result (self.new ≡ self.old) }
     {
-        match change_draft(
+        let renewed = change_draft(
             &mut self.rows,
             self.opening.given,
             self.opening.blocks.len(),
             draft,
-        ) {
-            Ok(renewed) => {
-                self.opening.given = renewed;
-                Ok(renewed)
-            }
-            Err(fault) => Err(fault),
-        }
+        )?;
+        self.opening.given = renewed;
+        Ok(renewed)
     }
 
     fn withdraw(&mut self, row: usize, member: u32) -> Result<u32, Fault>
@@ -75,41 +61,37 @@ impl Day {
         ensures leaves { day_of self.new ≡ left (day_of self.old) (move_of (Withdraw row member)) result }
         ensures kept { OnErr result (self.new ≡ self.old) }
     {
-        match withdraw(&mut self.rows, row, member) {
-            Ok(()) => Ok(0),
-            Err(fault) => Err(fault),
-        }
+        withdraw(&mut self.rows, row, member)?;
+        Ok(0)
     }
 
-    #[tactic(auto, using(crate::proofs::Valued::ticks_valued))]
+    #[tactic(auto, unfolding(clearing::specs::Clearing::ticks, dayfile::specs::Views::tick_values))]
     fn fix(&mut self) -> Result<u32, Fault>
         requires { self.old.phase ≡ InOpen }
         ensures gives { result ≡ answer (day_of self.old) (move_of Fix) }
         ensures leaves { day_of self.new ≡ left (day_of self.old) (move_of Fix) result }
         ensures kept { OnErr result (self.new ≡ self.old) }
     {
-        match fix(
+        let rounds = fix(
             &self.rows,
             &self.opening.blocks,
             &self.opening.references,
             &mut self.hours,
             &mut self.marks,
-        ) {
-            Ok(rounds) => {
-                self.phase = Phase::Fixed;
-                Ok(rounds)
-            }
-            Err(fault) => Err(fault),
-        }
+        )?;
+        self.phase = Phase::Fixed;
+        Ok(rounds)
     }
 
+    #[tactic(auto, unfolding(crate::specs::States::no_results, crate::specs::States::no_marks))]
     fn recall(&mut self) -> Result<u32, Fault>
         requires { self.old.phase ≡ InFixed }
         ensures gives { result ≡ answer (day_of self.old) (move_of Recall) }
         ensures leaves { day_of self.new ≡ left (day_of self.old) (move_of Recall) result }
         ensures kept { OnErr result (self.new ≡ self.old) }
     {
-        zero(&mut self.hours, &mut self.marks);
+        clear(&mut self.hours);
+        clear(&mut self.marks);
         self.phase = Phase::Open;
         Ok(0)
     }
@@ -124,19 +106,16 @@ impl Day {
         Ok(0)
     }
 
+    #[tactic(auto, unfolding(posting::specs::Posts::post_decided))]
     fn post(&mut self, order: &PostOrder) -> Result<u32, Fault>
         requires { self.old.phase ≡ InPost }
         ensures gives { result ≡ answer (day_of self.old) (move_of (Post order.now)) }
         ensures leaves { day_of self.new ≡ left (day_of self.old) (move_of (Post order.now)) result }
         ensures kept { OnErr result (self.new ≡ self.old) }
     {
-        match post(&self.hours, &mut self.posts, self.posted, order) {
-            Ok(fill) => {
-                self.posted = one_more(self.posted);
-                Ok(fill)
-            }
-            Err(fault) => Err(fault),
-        }
+        let fill = post(&self.hours, &mut self.posts, self.posted, order)?;
+        self.posted += 1;
+        Ok(fill)
     }
 
     fn finish(&mut self) -> Result<u32, Fault>
@@ -149,14 +128,12 @@ impl Day {
         Ok(0)
     }
 
-    // Why a phase that does not have the call refuses it: what the call alone decides comes before the phase.
-    fn out_of_phase(&self, call: Call) -> Fault
-        ensures { result ≡ out_of_phase (judged (length (sets_of self.now.opening.blocks)) (move_of call)) }
+    // A phase that does not have the call refuses it: what the call alone decides comes before the phase.
+    fn out_of_phase(&self, call: Call) -> Result<u32, Fault>
+        ensures { result ≡ Refused (out_of_phase (judged (length (sets_of self.now.opening.blocks)) (move_of call))) }
     {
-        match judge(call, self.opening.blocks.len()) {
-            Ok(()) => Refusal::WrongPhase.without_text(),
-            Err(fault) => fault,
-        }
+        judge(call, self.opening.blocks.len())?;
+        Err(Refusal::WrongPhase.without_text())
     }
 
     // Makes a call. Answers the stamp, the rounds, the fill or 0; a refused call leaves the day as it was.
@@ -165,6 +142,7 @@ impl Day {
         ensures leaves { day_of self.new ≡ left (day_of self.old) (move_of call) result }
         ensures kept { OnErr result (self.new ≡ self.old) }
     {
+        // Every pair is named, so that a new call or phase cannot pass unseen.
         match (self.phase, call) {
             (Phase::Open, Call::Enter(draft)) => self.enter(&draft),
             (Phase::Open, Call::Change(draft)) => self.change(&draft),
@@ -174,9 +152,9 @@ impl Day {
             (Phase::Fixed, Call::Confirm) => self.confirm(),
             (Phase::Post, Call::Post(order)) => self.post(&order),
             (Phase::Post, Call::Finish) => self.finish(),
-            (Phase::Open, Call::Recall | Call::Confirm | Call::Post(_) | Call::Finish) => Err(
-                self.out_of_phase(call),
-            ),
+            (Phase::Open, Call::Recall | Call::Confirm | Call::Post(_) | Call::Finish) => {
+                self.out_of_phase(call)
+            }
             (
                 Phase::Fixed,
                 Call::Enter(_)
@@ -185,7 +163,7 @@ impl Day {
                 | Call::Fix
                 | Call::Post(_)
                 | Call::Finish,
-            ) => Err(self.out_of_phase(call)),
+            ) => self.out_of_phase(call),
             (
                 Phase::Post,
                 Call::Enter(_)
@@ -194,7 +172,7 @@ impl Day {
                 | Call::Fix
                 | Call::Recall
                 | Call::Confirm,
-            ) => Err(self.out_of_phase(call)),
+            ) => self.out_of_phase(call),
             (
                 Phase::Final,
                 Call::Enter(_)
@@ -205,7 +183,7 @@ impl Day {
                 | Call::Confirm
                 | Call::Post(_)
                 | Call::Finish,
-            ) => Err(self.out_of_phase(call)),
+            ) => self.out_of_phase(call),
         }
     }
 }

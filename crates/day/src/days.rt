@@ -6,7 +6,7 @@ use clearing::results::HourResult;
 use dayfile::opening::Opening;
 use posting::fills::Fill;
 
-// The first `posted` places of the post list count.
+// The first `posted` places of the post list count: it has 128 by the rules, and how many are used is part of a day.
 #[derive(Drop)]
 pub struct Day {
     pub(crate) phase: Phase,

@@ -1,21 +1,17 @@
-// Orders by their drafts, into the order table.
-ghost use Rattle.std.specs.Prelude.{◌≡◌, ◌≤◌, length, OnErr};
-ghost use Rattle.book.specs.Drafted.{asked_of, draft_verdict};
+// Orders by their drafts, into the order table. Two functions of a few lines: one over the call that each makes would be longer.
+ghost use Rattle.std.specs.Prelude.{◌≡◌, length, OnErr};
+ghost use Rattle.book.specs.Drafted.{asked_of};
 ghost use Rattle.book.specs.Views.{places};
-ghost use Rattle.calls.specs.Moves.{move_of};
-ghost use Rattle.day.specs.Answers.{judged};
 ghost use Rattle.day.specs.Views.{enter_draft, change_draft, places_after, lent_to};
 
 use book::admit::admit;
 use book::drafts::Draft;
 use book::entering::{change, enter};
-use book::ranges::bad_member;
 use book::rows::Row;
-use calls::calls::Call;
 use faults::fault::{Fault, Refusal};
-use posting::ranges::judge_post;
 
 // Enters an order into an empty row, in a day of so many blocks. Answers its stamp.
+#[tactic(auto, unfolding(book::specs::Drafted::draft_verdict))]
 pub fn enter_draft(rows: &mut [Row], given: u32, blocks: usize, draft: &Draft) -> Result<u32, Fault>
     ensures gives { result ≡ lent_to (length rows.old) (enter_draft blocks (places rows.old) given draft.now) }
     ensures leaves { places rows.new ≡ places_after (asked_of draft.now) result (places rows.old) }
@@ -24,13 +20,12 @@ pub fn enter_draft(rows: &mut [Row], given: u32, blocks: usize, draft: &Draft) -
     if rows.len() != 256 {
         return Err(Refusal::WrongLength.without_text());
     }
-    match admit(draft, blocks) {
-        Ok(ticket) => enter(rows, given, &ticket),
-        Err(fault) => Err(fault),
-    }
+    let ticket = admit(draft, blocks)?;
+    enter(rows, given, &ticket)
 }
 
 // Changes the member's own order. Answers its new stamp.
+#[tactic(auto, unfolding(book::specs::Drafted::draft_verdict))]
 pub fn change_draft(
     rows: &mut [Row],
     given: u32,
@@ -44,8 +39,6 @@ pub fn change_draft(
     if rows.len() != 256 {
         return Err(Refusal::WrongLength.without_text());
     }
-    match admit(draft, blocks) {
-        Ok(ticket) => change(rows, given, &ticket),
-        Err(fault) => Err(fault),
-    }
+    let ticket = admit(draft, blocks)?;
+    change(rows, given, &ticket)
 }

@@ -8,25 +8,24 @@ ghost use Rattle.day.specs.Answers.{judged};
 
 use book::admit::admit;
 use book::drafts::Draft;
-use book::ranges::bad_member;
+use book::ranges::{bad_member, bad_row};
 use calls::calls::Call;
 use faults::fault::{Fault, Refusal};
 use posting::ranges::judge_post;
 
+#[tactic(auto, unfolding(book::specs::Drafted::draft_verdict))]
 fn judge_draft(draft: &Draft, blocks: usize) -> Result<(), Fault>
     ensures enter { result ≡ judged blocks (move_of (Enter draft.now)) }
     ensures change { result ≡ judged blocks (move_of (Change draft.now)) }
 {
-    match admit(draft, blocks) {
-        Ok(_) => Ok(()),
-        Err(fault) => Err(fault),
-    }
+    admit(draft, blocks)?;
+    Ok(())
 }
 
 fn judge_withdrawal(row: usize, member: u32) -> Result<(), Fault>
     ensures { result ≡ (if bad_row row || bad_member member then Refused out_of_range else Fine tt) }
 {
-    if row > 255 || bad_member(member) {
+    if bad_row(row) || bad_member(member) {
         return Err(Refusal::OutOfRange(0).without_text());
     }
     Ok(())

@@ -9,4 +9,3 @@ pub mod loading;
 pub mod phases;
 pub mod reading;
 pub mod tables;
-mod zeroing;

@@ -1,44 +1,20 @@
 // A new day from its text.
-ghost use Rattle.std.specs.Prelude.{◌≡◌, [], OnErr};
+ghost use Rattle.std.specs.Prelude.{◌≡◌, OnErr};
 ghost use Rattle.faults.specs.Answers.{viewed};
 ghost use Rattle.text.specs.Format.{onward, got};
 ghost use Rattle.text.specs.Tokens.{told, ahead};
 ghost use Rattle.dayfile.specs.Day.{day_text};
-ghost use Rattle.book.specs.Views.{places};
-ghost use Rattle.day.specs.declared.phases.Phase.TheVariants.{Open as InOpen};
-ghost use Rattle.day.specs.Views.{state_of, day_of, opened_day};
+ghost use Rattle.day.specs.Views.{day_of, opened_day};
 
 use crate::days::Day;
 use crate::phases::Phase;
 use book::blanks::Blank;
-use book::rows::Row;
 use clearing::marks::Mark;
 use clearing::results::HourResult;
 use dayfile::loading::load;
-use dayfile::opening::Opening;
 use faults::fault::Fault;
 use posting::fills::Fill;
 use text::reader::Reader;
-
-fn opened(
-    opening: Opening,
-    rows: [Row; 256],
-    hours: [HourResult; 24],
-    marks: [Mark; 256],
-    posts: [Fill; 128],
-) -> Day
-    ensures { day_of result ≡ state_of InOpen opening (places rows) hours marks [] }
-{
-    Day {
-        phase: Phase::Open,
-        opening,
-        rows,
-        hours,
-        marks,
-        posts,
-        posted: 0,
-    }
-}
 
 impl Day {
     // Opens the day whose text begins at the reader's place; the reader then stands where it ends. A refused load opens no
@@ -48,13 +24,19 @@ impl Day {
         ensures input { reader.new.input.now ≡ reader.old.input.now }
         ensures stays { OnErr result (reader.new.at ≡ reader.old.at) }
     {
-        let mut rows = [Row::Empty; 256];
+        let mut rows = [None; 256];
         let mut hours = [HourResult::blank(); 24];
         let mut marks = [Mark::Kept; 256];
         let mut posts = [Fill::blank(); 128];
-        match load(reader, &mut rows, &mut hours, &mut marks, &mut posts) {
-            Ok(opening) => Ok(opened(opening, rows, hours, marks, posts)),
-            Err(fault) => Err(fault),
-        }
+        let opening = load(reader, &mut rows, &mut hours, &mut marks, &mut posts)?;
+        Ok(Day {
+            phase: Phase::Open,
+            opening,
+            rows,
+            hours,
+            marks,
+            posts,
+            posted: 0,
+        })
     }
 }

@@ -2,7 +2,7 @@
 ghost use Rattle.std.specs.Prelude.{◌≡◌, ◌-◌, length, MatchResult};
 ghost use Rattle.book.specs.Views.{places, sets_of};
 ghost use Rattle.clearing.specs.Results.{result_at};
-ghost use Rattle.clearing.specs.Sharing.{hour_shares, HourShared};
+ghost use Rattle.clearing.specs.Sharing.{hour_shares};
 ghost use Rattle.dayfile.specs.Written.{bytes_of, write_answer, output_after};
 ghost use Rattle.posting.specs.Posts.{listed, filled_in};
 ghost use Rattle.readings.specs.Readings.{result_in, mark_in, block_price_in};
@@ -11,6 +11,7 @@ ghost use Rattle.day.specs.Views.{day_of};
 
 use crate::days::Day;
 use crate::phases::Phase;
+use book::ranges::bad_hour;
 use clearing::marks::Mark;
 use clearing::results::HourResult;
 use dayfile::writing::write;
@@ -23,16 +24,11 @@ use readings::shares::shares_in;
 fn outside_open<T: Copy>(phase: Phase, read: Result<T, Fault>) -> Result<T, Fault>
     ensures { result ≡ outside_open phase read }
 {
-    match read {
-        Ok(value) => {
-            if phase == Phase::Open {
-                Err(Refusal::WrongPhase.without_text())
-            } else {
-                Ok(value)
-            }
-        }
-        Err(fault) => Err(fault),
+    let value = read?;
+    if phase == Phase::Open {
+        return Err(Refusal::WrongPhase.without_text());
     }
+    Ok(value)
 }
 
 impl Day {
@@ -82,7 +78,7 @@ impl Day {
         if shares.len() != 256 {
             return Err(Refusal::WrongLength.without_text());
         }
-        if hour < 1 || hour > 24 {
+        if bad_hour(hour) {
             return Err(Refusal::OutOfRange(0).without_text());
         }
         if self.phase == Phase::Open {

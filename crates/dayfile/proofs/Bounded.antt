@@ -1,5 +1,5 @@
 -- No day's text is longer than 40,000 bytes.
-use Rattle.std.proofs.Common.{◌≡◌, ℕ, zero, suc, pred, ◌+◌, ◌*◌, ◌^◌, ◌<◌, ◌≤◌, min, true, not, ◌&&◌, ltb, List, [], ◌∷◌, ◌++◌, map, length, take, codes, decimal, sym, refl, ap, ◌∙◌, subst, arith, length-append}
+use Rattle.std.proofs.Common.{◌≡◌, ℕ, suc, pred, ◌+◌, ◌*◌, ◌^◌, ◌<◌, ◌≤◌, true, not, ltb, List, [], ◌∷◌, ◌++◌, length, take, codes, decimal, ap, ◌∙◌, arith, length-append, Option, None, Some}
 use Rattle.std.proofs.lemmas.List.{length-take, length-map}
 use Rattle.std.proofs.lemmas.Fmt.{length-decimal-le}
 use Rattle.std.proofs.lemmas.Bool.{and_parts, or_parts, not-true, ltb-false}
@@ -13,8 +13,7 @@ use Rattle.curves.specs.Points.{Point}
 use Rattle.curves.specs.Views.{point, points}
 use Rattle.curves.specs.Offers.{Form, flat, stairs, slopes}
 use Rattle.curves.specs.Orders.{offer_of}
-use Rattle.book.specs.declared.rows.Row.{Row}
-use Rattle.book.specs.declared.rows.Row.TheVariants.{Empty, Held}
+use Rattle.book.specs.declared.entries.Entry.{Entry}
 use Rattle.book.specs.declared.blocks.Blocks.{Blocks}
 use Rattle.book.specs.Bids.{Asked}
 use Rattle.book.specs.HourSets.{bad_hours, all_hours}
@@ -23,7 +22,7 @@ use Rattle.text.specs.Staged.{staged_text, many}
 use Rattle.dayfile.specs.declared.opening.Opening.{Opening}
 use Rattle.dayfile.specs.Kinds.{side_name}
 use Rattle.dayfile.specs.Lines.{closing, point_text, point_on, pairs_text, form_text, order_text}
-use Rattle.dayfile.specs.Day.{day_text, tick_on, set_line, hours_text, blocks_text}
+use Rattle.dayfile.specs.Day.{tick_on, set_line, hours_text, blocks_text}
 use Rattle.dayfile.specs.Views.{tick_values}
 use Rattle.dayfile.specs.Sequence.{sequence}
 use Rattle.dayfile.specs.Entered.{Holding}
@@ -158,11 +157,11 @@ small_form (Market m) = m.few
 small_form (Step s) = (few_points s.chain.count s.chain.pairs s.chain.fits, small_points (take s.chain.count s.chain.pairs))
 small_form (Linear l) = (few_points l.chain.count l.chain.pairs l.chain.fits, small_points (take l.chain.count l.chain.pairs))
 
-small_rows : (i : ℕ) (rows : List Row) → i + length rows ≤ 256 → Holding Small i (places rows)
+small_rows : (i : ℕ) (rows : List (Option Entry)) → i + length rows ≤ 256 → Holding Small i (places rows)
 unfolding places
 small_rows i [] h = tt
-small_rows i (Empty ∷ rs) h = small_rows (suc i) rs (omega arith)
-small_rows i (Held e ∷ rs) h = (record { row = omega arith; member = e.known; product = e.listed; form = small_form e.order }, small_rows (suc i) rs (omega arith))
+small_rows i (None ∷ rs) h = small_rows (suc i) rs (omega arith)
+small_rows i (Some e ∷ rs) h = (record { row = omega arith; member = e.known; product = e.listed; form = small_form e.order }, small_rows (suc i) rs (omega arith))
 
 pub ticks_within : (ts : List Tick) → Within 1 300000 (tick_values ts)
 unfolding tick_values
@@ -182,11 +181,11 @@ sets_within b = hours_within (sets_of b) b.proper
 pub sets_few : (b : Blocks) → length (sets_of b) ≤ 14
 sets_few b = let n = length-take b.count b.sets in let f = b.few in omega arith
 
-rows_few : (rows : List Row) → length rows ≡ 256 → length (sequence (places rows)) ≤ 256
+rows_few : (rows : List (Option Entry)) → length rows ≡ 256 → length (sequence (places rows)) ≤ 256
 unfolding places
 rows_few rows e = omega (arith, sequence_length (places rows), length-map rows place_of)
 
-pub day_short : (o : Opening) (rows : List Row) → length o.references ≡ 24 → length rows ≡ 256 → length (bytes_of o rows) ≤ 40000
+pub day_short : (o : Opening) (rows : List (Option Entry)) → length o.references ≡ 24 → length rows ≡ 256 → length (bytes_of o rows) ≤ 40000
 unfolding bytes_of
 day_short o rows refs all =
     let vs = tick_values o.references in

@@ -1,40 +1,21 @@
 -- Texts written piece by piece: one piece after another, and a piece in each turn of a loop.
-use Rattle.std.proofs.Common.{◌≡◌, ℕ, zero, suc, pred, ◌+◌, ◌-◌, ◌<◌, ◌≤◌, List, [], ◌∷◌, ◌++◌, map, length, get_or, drop, sym, refl, ap, ◌∙◌, arith}
+use Rattle.std.proofs.Common.{◌≡◌, ℕ, pred, ◌+◌, ◌-◌, ◌<◌, ◌≤◌, List, [], ◌∷◌, ◌++◌, map, length, get_or, drop, sym, refl, ap, ◌∙◌, arith}
 use Rattle.std.specs.List.{flat_map}
 use Rattle.std.proofs.lemmas.List.{drop_more, drop_all, get_or-map, length-map}
 use Rattle.text.specs.Format.{Format}
 use Rattle.text.specs.Staged.{staged_text}
-use Rattle.text.specs.Writes.{wrote, reached}
-use Rattle.dayfile.specs.Written.{Wrote}
-use Rattle.text.proofs.Writings.{write_on, wrote_more, reached_more, wrote_nothing, reached_nothing}
+use Rattle.text.specs.Pages.{printed}
+use Rattle.text.proofs.Paging.{printed_on, printed_nothing}
 
-pub put_on : {out mid end : List ℕ} {at k m : ℕ} (bs cs : List ℕ) → Wrote out at bs mid k → Wrote mid k cs end m → Wrote out at (bs ++ cs) end m
-put_on {out} {mid} {end} {at} {k} {m} bs cs p q =
-    let both = write_on out mid end at k m bs cs p.bytes p.place q.bytes q.place in
-    record { bytes = both.0; place = both.1 }
+-- one piece after another
+pub ruleset writings = (printed_on, length-map)
 
-pub put_same : {out end : List ℕ} {at m : ℕ} (bs cs : List ℕ) → bs ≡ cs → Wrote out at bs end m → Wrote out at cs end m
-put_same {out} {end} {at} {m} bs cs e p = record { bytes = p.bytes ∙ ap (wrote out at) e; place = p.place ∙ ap (reached out at) e }
+-- a page in a turn of a loop: bs came on it, and cs are still to come
+pub page_turn : (n : ℕ) (page next bs cs rest whole : List ℕ) → rest ≡ bs ++ cs → next ≡ printed n page bs → printed n page rest ≡ whole → printed n next cs ≡ whole
+page_turn n page next bs cs rest whole e p d = ap (λ g. printed n g cs) p ∙ printed_on n page bs cs ∙ ap (printed n page) (sym e) ∙ d
 
--- bs are still to be written at k, and then all of whole will be written from at on
-pub record Due (mid : List ℕ) (k : ℕ) (bs : List ℕ) (out : List ℕ) (at : ℕ) (whole : List ℕ) : Type 0 where
-  pub bytes : wrote mid k bs ≡ wrote out at whole
-  pub place : reached mid k bs ≡ reached out at whole
-
-pub due_turn : {mid end out : List ℕ} {k m at : ℕ} (bs cs rest whole : List ℕ) → rest ≡ bs ++ cs → Wrote mid k bs end m → Due mid k rest out at whole → Due end m cs out at whole
-due_turn {mid} {end} {out} {k} {m} {at} bs cs rest whole e p d = record {
-  bytes = (λ i. wrote (p.bytes i) (p.place i) cs) ∙ wrote_more mid k bs cs ∙ ap (wrote mid k) (sym e) ∙ d.bytes;
-  place = (λ i. reached (p.bytes i) (p.place i) cs) ∙ reached_more mid k bs cs ∙ ap (reached mid k) (sym e) ∙ d.place;
-}
-
-pub due_start : {out mid : List ℕ} {at k : ℕ} (bs cs whole : List ℕ) → whole ≡ bs ++ cs → Wrote out at bs mid k → Due mid k cs out at whole
-due_start {out} {mid} {at} {k} bs cs whole e p = due_turn bs cs whole whole e p (record { bytes = refl; place = refl })
-
-pub due_end : {mid out : List ℕ} {k at : ℕ} (rest whole : List ℕ) → rest ≡ [] → Due mid k rest out at whole → Wrote out at whole mid k
-due_end {mid} {out} {k} {at} rest whole e d = record {
-  bytes = sym (wrote_nothing mid k) ∙ ap (wrote mid k) (sym e) ∙ d.bytes;
-  place = sym (reached_nothing mid k) ∙ ap (reached mid k) (sym e) ∙ d.place;
-}
+pub page_end : (n : ℕ) (page rest whole : List ℕ) → rest ≡ [] → printed n page rest ≡ whole → page ≡ whole
+page_end n page rest whole e d = sym (printed_nothing n page) ∙ ap (printed n page) (sym e) ∙ d
 
 -- the text of the values from the i-th on, where F k writes one that k more follow
 unfoldable pub rest : {A : Type 0} → (ℕ → Format A) → List A → ℕ → List ℕ

@@ -1,5 +1,5 @@
 -- What the verdict grants, a line can say; and a day that is written is read back.
-use Rattle.std.proofs.Common.{◌≡◌, ℕ, suc, pred, ◌+◌, ◌≤◌, Bool, true, false, cond, ◌||◌, ltb, List, [], ◌∷◌, ◌++◌, length, Ok, Err, codes, Result, sym, refl, ap, ◌∙◌, subst, arith}
+use Rattle.std.proofs.Common.{◌≡◌, ℕ, pred, ◌+◌, ◌≤◌, Bool, true, false, cond, ◌||◌, ltb, List, [], ◌∷◌, ◌++◌, length, Ok, Err, Result, sym, refl, ap, ◌∙◌, arith, Option}
 use Rattle.std.proofs.lemmas.Bool.{or_parts, ltb-false}
 use Rattle.faults.specs.declared.fault.Fault.{Fault}
 use Rattle.faults.specs.Answers.{out_of_range}
@@ -9,19 +9,18 @@ use Rattle.curves.specs.Points.{Point}
 use Rattle.curves.specs.Ranges.{outside, bad_tick, bad_volume, bad_count}
 use Rattle.curves.specs.Sequences.{bad_point, wild, paired, pairs_verdict}
 use Rattle.curves.specs.Offers.{Form, flat, stairs, slopes}
-use Rattle.book.specs.declared.rows.Row.{Row}
+use Rattle.book.specs.declared.entries.Entry.{Entry}
 use Rattle.book.specs.Bids.{Asked, Place}
 use Rattle.book.specs.Verdicts.{bad_row, bad_member, bad_product, bad_number, form_verdict, block_verdict, and_then, verdict}
 use Rattle.book.specs.Views.{places, sets_of}
-use Rattle.text.specs.Format.{got}
-use Rattle.text.specs.Staged.{Stages, many}
+use Rattle.text.specs.Staged.{Stages}
 use Rattle.dayfile.specs.declared.opening.Opening.{Opening}
 use Rattle.dayfile.specs.Kinds.{side_text}
-use Rattle.dayfile.specs.Lines.{closing, point_text, point_on, pairs_text, form_text, order_text}
+use Rattle.dayfile.specs.Lines.{point_text, point_on, pairs_text, form_text, order_text}
 use Rattle.dayfile.specs.Day.{DayText, day_text, count_text, tick_on, set_line, hours_text, blocks_text, orders_text, order_line, booked, empty_book}
 use Rattle.dayfile.specs.Views.{tick_values}
 use Rattle.dayfile.specs.Sequence.{sequence}
-use Rattle.dayfile.specs.Entered.{day_of, table_of, Stands, Proper, Accepted, LoadsItsText, Returns}
+use Rattle.dayfile.specs.Entered.{day_of, table_of, Proper, LoadsItsText, Returns}
 use Rattle.dayfile.specs.Written.{day_in}
 use Rattle.dayfile.proofs.Described.{faithful_day}
 use Rattle.dayfile.proofs.Refilled.{stands, sequence_enters, sequence_length}
@@ -113,7 +112,7 @@ day_returns refs sets ps n r m s h =
       stands = stands (length sets) (sequence ps) (sequence_enters (length sets) (order_fits (length sets)) ps h);
     }
 
-pub opening_returns : (o : Opening) (rows : List Row) → length o.references ≡ 24 → Proper (length (sets_of o.blocks)) (places rows) → Returns (day_in o rows)
+pub opening_returns : (o : Opening) (rows : List (Option Entry)) → length o.references ≡ 24 → Proper (length (sets_of o.blocks)) (places rows) → Returns (day_in o rows)
 opening_returns o rows n h = day_returns (tick_values o.references) (sets_of o.blocks) (places rows) (ticks_length o.references ∙ n) (ticks_within o.references) (sets_few o.blocks) (sets_within o.blocks) h
 
 -- the orders of a day that was read stand in its table

@@ -1,20 +1,19 @@
 -- Orders entered one after another into the empty table, and a table's orders entered anew.
-use Rattle.std.proofs.Common.{◌≡◌, ℕ, zero, suc, ◌+◌, ◌<◌, ◌≤◌, Bool, true, false, cond, ◌&&◌, leb, List, [], ◌∷◌, ◌++◌, length, get_or, take, drop, set, replicate, Ok, Err, Result, sym, refl, ap, ◌∙◌, subst, arith, length-set, get_or-set_other}
+use Rattle.std.proofs.Common.{◌≡◌, ℕ, zero, suc, ◌+◌, ◌<◌, ◌≤◌, Bool, true, false, cond, ◌&&◌, leb, List, [], ◌∷◌, ◌++◌, length, get_or, take, drop, set, replicate, Ok, Err, Result, sym, refl, ap, ◌∙◌, arith, length-set, get_or-set_other}
 use lib.ListN.{length-replicate}
 use Rattle.std.proofs.lemmas.List.{append_assoc, append-nil}
-use Rattle.std.proofs.lemmas.Bool.{lt-leb, leb-false, and_left, and_right}
+use Rattle.std.proofs.lemmas.Bool.{lt-leb, and_left, and_right}
 use Rattle.faults.specs.declared.fault.Fault.{Fault}
 use Rattle.faults.specs.declared.fault.Refusal.TheVariants.{RowTaken, BlocksFull, StampsSpent}
-use Rattle.faults.specs.Refusals.{fault}
 use Rattle.book.specs.Bids.{Asked, Bid, Place, vacant, held, bid_of}
 use Rattle.book.specs.Verdicts.{verdict, is_block}
-use Rattle.book.specs.Places.{place_at, taken, holds_block, blocks_held, others}
-use Rattle.book.specs.Entering.{crowded, enter_answer, written}
-use Rattle.text.specs.Staged.{Ruling, granted, denied, Stages, left}
+use Rattle.book.specs.Places.{place_at, taken, blocks_held, others}
+use Rattle.book.specs.Entering.{crowded, enter_answer}
+use Rattle.text.specs.Staged.{granted, denied, Stages, left}
 use Rattle.dayfile.specs.Lines.{order_text}
 use Rattle.dayfile.specs.Day.{Book, empty_book, empty_places, booked, ruling, line_rule, order_line}
 use Rattle.dayfile.specs.Sequence.{order_at, placed, stamped, unstamped, numbered, sequence}
-use Rattle.dayfile.specs.Entered.{table_of, Stands, Holding, Proper}
+use Rattle.dayfile.specs.Entered.{Stands, Holding, Proper}
 use Rattle.dayfile.proofs.Ordering.{Below, length_placed, written_last, below_set, below_more, unstamped_numbered}
 
 -- what it takes to be entered

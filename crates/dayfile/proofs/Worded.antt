@@ -1,22 +1,21 @@
 -- The texts of a day's parts as they are written.
-use Rattle.std.proofs.Common.{◌≡◌, ℕ, ◌+◌, ◌-◌, ◌<◌, ◌≤◌, List, [], ◌∷◌, ◌++◌, length, get_or, Some, None, codes, decimal, sym, refl, ap, ◌∙◌, ⊎_elim, arith}
+use Rattle.std.proofs.Common.{◌≡◌, ℕ, ◌<◌, ◌≤◌, List, [], ◌∷◌, ◌++◌, length, get_or, Some, None, codes, decimal, sym, refl, ap, ◌∙◌, ⊎_elim, arith}
 use Rattle.std.proofs.lemmas.List.{get_or_default, length-map}
 use Rattle.std.proofs.lemmas.Bool.{lt-ltb, le-ltb, cases_lt}
 use Rattle.curves.specs.declared.ticks.Tick.{Tick}
 use Rattle.book.specs.HourSets.{hours_at}
-use Rattle.std.specs.List.{flat_map}
 use Rattle.curves.specs.Points.{Point}
 use Rattle.curves.specs.Offers.{flat, stairs, slopes}
 use Rattle.book.specs.Bids.{Asked, Place}
 use Rattle.text.specs.Staged.{many}
 use Rattle.dayfile.specs.declared.kinds.Kind.TheVariants.{Market, Step, Linear}
 use Rattle.dayfile.specs.Kinds.{side_name, kind_name}
-use Rattle.dayfile.specs.Lines.{closing, point_text, point_on, pairs_text, form_text, order_text}
+use Rattle.dayfile.specs.Lines.{point_text, point_on, pairs_text, form_text, order_text}
 use Rattle.dayfile.specs.Day.{DayText, day_text, count_text, tick_on, set_line, hours_text, blocks_text, order_line, booked, empty_book, orders_text}
 use Rattle.dayfile.specs.Views.{tick_values}
 use Rattle.dayfile.specs.Sequence.{stamped, unstamped, sequence}
 use Rattle.dayfile.specs.Written.{headed, lines_text, table_text}
-use Rattle.dayfile.proofs.Chaining.{rest, viewed_more, viewed_end, staged_joined}
+use Rattle.dayfile.proofs.Chaining.{staged_joined}
 
 abbrev pub num : ℕ → ℕ → List ℕ
 num n c = decimal n ++ (c ∷ [])
@@ -78,36 +77,9 @@ pub lines_end : (ps : List Place) → stamped 0 ps ≡ [] → lines_text (sequen
 unfolding sequence
 lines_end ps e = ap (λ xs. lines_text (unstamped xs)) e ∙ lines_none
 
-pub ticks_more : (ts : List Tick) (i : ℕ) (t : Tick) → i < length ts → t ≡ get_or ts i t → rest tick_on (tick_values ts) i ≡ num t.value (closing (length ts - (i + 1))) ++ rest tick_on (tick_values ts) (i + 1)
-unfolding tick_values
-ticks_more ts i t h e = viewed_more (λ (u : Tick). u.value) tick_on ts i t h e
-
-pub ticks_end : (ts : List Tick) (i : ℕ) → length ts ≤ i → rest tick_on (tick_values ts) i ≡ []
-unfolding tick_values
-ticks_end ts i h = viewed_end (λ (u : Tick). u.value) tick_on ts i h
-
 pub ticks_length : (ts : List Tick) → length (tick_values ts) ≡ length ts
 unfolding tick_values
 ticks_length ts = length-map ts (λ (u : Tick). u.value)
-
--- what the hours of a block tell
-pub hours_read : (hs : List ℕ) (k h : ℕ) → Some h ≡ hours_at hs k → (k < length hs) × (get_or hs k h ≡ h)
-hours_read hs k h e = ⊎_elim here past (cases_lt k (length hs))
-  where
-    here : k < length hs → (k < length hs) × (get_or hs k h ≡ h)
-    here lt =
-        let e' : Some h ≡ Some (get_or hs k 0) = rw (lt-ltb k (length hs) lt) at e in
-        let is : h ≡ get_or hs k 0 = cc in
-        (lt, get_or_default hs k h 0 lt ∙ sym is)
-
-    past : length hs ≤ k → (k < length hs) × (get_or hs k h ≡ h)
-    past le = let e' : Some h ≡ None = rw (le-ltb k (length hs) le) at e in let z : ◌≡◌ {A = ℕ} 0 1 = cc in absurd (omega arith)
-
-pub hours_none : (hs : List ℕ) (k : ℕ) → None ≡ hours_at hs k → length hs ≤ k
-hours_none hs k e = ⊎_elim here (λ le. le) (cases_lt k (length hs))
-  where
-    here : k < length hs → length hs ≤ k
-    here lt = let e' : None ≡ Some (get_or hs k 0) = rw (lt-ltb k (length hs) lt) at e in let z : ◌≡◌ {A = ℕ} 0 1 = cc in absurd (omega arith)
 
 pub day_text_is : (d : DayText) → day_text.text d ≡ hours_text.text d.references ++ (blocks_text.text d.sets ++ table_text d.orders)
 unfolding day_text

@@ -1,22 +1,16 @@
 -- The text of a day as it is written, and what writing is answered.
-use Rattle.std.specs.Prelude.{◌≡◌, ℕ, Bool, cond, not, ◌||◌, List, [], ◌∷◌, ◌++◌, length, drop, Ok, Err, codes, decimal, Result, ◌==◌, nat_lt}
+use Rattle.std.specs.Prelude.{◌≡◌, ℕ, Bool, cond, not, ◌||◌, List, [], ◌∷◌, ◌++◌, length, drop, Ok, Err, codes, decimal, Result, ◌==◌, nat_lt, Option}
 use Rattle.std.specs.List.{flat_map}
 use Rattle.faults.specs.declared.fault.Fault.{Fault}
 use Rattle.faults.specs.Answers.{wrong_length}
 use Rattle.book.specs.Bids.{Asked}
 use Rattle.book.specs.Views.{places, sets_of}
-use Rattle.book.specs.declared.rows.Row.{Row}
-use Rattle.text.specs.Writes.{wrote, reached}
+use Rattle.book.specs.declared.entries.Entry.{Entry}
 use Rattle.dayfile.specs.declared.opening.Opening.{Opening}
 use Rattle.dayfile.specs.Day.{DayText, day_text}
 use Rattle.dayfile.specs.Lines.{order_text}
 use Rattle.dayfile.specs.Views.{tick_values}
 use Rattle.dayfile.specs.Entered.{day_of}
-
--- bs were written from at on, as far as the output reaches: it is now end, and m is the place after them
-pub record Wrote (out : List ℕ) (at : ℕ) (bs : List ℕ) (end : List ℕ) (m : ℕ) : Type 0 where
-  pub bytes : end ≡ wrote out at bs
-  pub place : m ≡ reached out at bs
 
 -- a line with a word and a number
 abbrev pub headed : List ℕ → ℕ → List ℕ
@@ -31,10 +25,10 @@ abbrev pub table_text : List Asked → List ℕ
 table_text xs = headed (codes "orders") (length xs) ++ lines_text xs
 
 -- the day that an opening and a table hold, and its text
-abbrev pub day_in : Opening → List Row → DayText
+abbrev pub day_in : Opening → List (Option Entry) → DayText
 day_in o rows = day_of (tick_values o.references) (sets_of o.blocks) (places rows)
 
-unfoldable pub bytes_of : Opening → List Row → List ℕ
+unfoldable pub bytes_of : Opening → List (Option Entry) → List ℕ
 bytes_of o rows = day_text.text (day_in o rows)
 
 -- the table has another length than 256 rows, or the output is too short for the text

@@ -1,14 +1,16 @@
 // The text of a day: read into lent tables and written back.
 #![tactic(auto)]
 
+mod items;
 pub mod kinds;
 pub mod lines;
 pub mod loading;
 pub mod naming;
 pub mod opening;
 mod orders;
+mod pages;
 mod putting;
-mod sections;
+pub mod sections;
 mod sequencing;
 #[cfg(test)]
 mod tests;

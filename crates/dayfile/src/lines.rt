@@ -1,15 +1,14 @@
 // An order line, read item by item.
-ghost use Rattle.std.specs.Prelude.{◌≡◌, ◌+◌, ◌-◌, ◌<◌, ◌≤◌, false, length, IfOk};
+ghost use Rattle.std.specs.Prelude.{◌≡◌, ◌≤◌, false, IfOk};
 ghost use Rattle.faults.specs.Answers.{viewed};
-ghost use Rattle.curves.specs.Views.{quoted, quotes};
+ghost use Rattle.curves.specs.Points.{Point};
+ghost use Rattle.curves.specs.Views.{quoted};
 ghost use Rattle.book.specs.Drafted.{pairs_of, form_of, too_many, asked_of};
-ghost use Rattle.text.specs.Closing.{close_byte};
-ghost use Rattle.text.specs.Format.{Faithful, item};
-ghost use Rattle.text.specs.Items.{number};
-ghost use Rattle.text.specs.Staged.{many};
-ghost use Rattle.text.specs.Tokens.{told, filled, ahead};
-ghost use Rattle.dayfile.specs.Lines.{closing, point_text, point_on, pairs_text, form_text, order_text};
+ghost use Rattle.text.specs.Format.{Faithful};
+ghost use Rattle.text.specs.Tokens.{told, ahead};
+ghost use Rattle.dayfile.specs.Lines.{point_text, pairs_text, form_text, order_text};
 
+use crate::items::{Item, ReadItem, read_list};
 use crate::kinds::{Kind, SideWord};
 use book::drafts::{Draft, Quotes, Terms};
 use curves::quotes::Quote;
@@ -17,40 +16,25 @@ use faults::fault::Fault;
 use text::close::Close;
 use text::reader::Reader;
 
-// What ends the item at `i` of a line of `n` items.
-pub(crate) fn end_at(i: usize, n: usize) -> Close
-    requires { i < n }
-    ensures { close_byte result ≡ closing (n - (i + 1)) }
-{
-    if n - (i + 1) == 0 {
-        Close::Line
-    } else {
-        Close::Space
-    }
+impl Item for Quote {
+    ghost Plain = { Point };
+
+    ghost plain = { quoted };
+
+    ghost form = { point_text };
 }
 
-fn read_pair(reader: &mut Reader, line: usize, end: Close) -> Result<Quote, Fault>
-    ensures told { told (viewed quoted result) reader.new ≡ (point_text (close_byte end)).read line reader.old.at (ahead reader.old) }
-    ensures input { reader.new.input.now ≡ reader.old.input.now }
-{
-    let tick = reader.number(line, 1, 300_000, Close::Space)?;
-    let volume = reader.number(line, 1, 100_000, end)?;
-    Ok(Quote { tick, volume })
-}
-
-// Pairs up to the line's end, one for each place of `list`.
-fn read_pairs(reader: &mut Reader, line: usize, list: &mut [Quote]) -> Result<(), Fault>
-    ensures told { filled result (quotes list.new) reader.new ≡ (many point_on (length list.old)).read line reader.old.at (ahead reader.old) }
-    ensures input { reader.new.input.now ≡ reader.old.input.now }
-{
-    let n = list.len();
-    for i in 0..n {
-        list[i] = read_pair(reader, line, end_at(i, n))?;
+impl ReadItem for Quote {
+    #[tactic(auto, unfolding(crate::specs::Lines::point_text))]
+    fn read(reader: &mut Reader, line: usize, end: Close) -> Result<Quote, Fault> {
+        let tick = reader.number(line, 1, 300_000, Close::Space)?;
+        let volume = reader.number(line, 1, 100_000, end)?;
+        Ok(Quote { tick, volume })
     }
-    Ok(())
 }
 
 // A count, and as many pairs.
+#[tactic(auto, unfolding(crate::specs::Lines::pairs_text, curves::specs::Views::quotes))]
 fn read_quotes(reader: &mut Reader, line: usize) -> Result<Quotes, Fault>
     ensures told { told (viewed pairs_of result) reader.new ≡ pairs_text.read line reader.old.at (ahead reader.old) }
     ensures input { reader.new.input.now ≡ reader.old.input.now }
@@ -58,7 +42,7 @@ fn read_quotes(reader: &mut Reader, line: usize) -> Result<Quotes, Fault>
 {
     let count = reader.number(line, 1, 8, Close::Space)?;
     let mut pairs = [Quote { tick: 0, volume: 0 }; 8];
-    read_pairs(reader, line, &mut pairs[0..count as usize])?;
+    read_list(reader, line, &mut pairs[0..count as usize])?;
     Ok(Quotes {
         pairs,
         count: count as usize,
@@ -66,59 +50,30 @@ fn read_quotes(reader: &mut Reader, line: usize) -> Result<Quotes, Fault>
 }
 
 // A form, and what follows it.
+#[tactic(auto, unfolding(crate::specs::Lines::form_text))]
 fn read_terms(reader: &mut Reader, line: usize) -> Result<Terms, Fault>
     ensures told { told (viewed form_of result) reader.new ≡ form_text.read line reader.old.at (ahead reader.old) }
     ensures input { reader.new.input.now ≡ reader.old.input.now }
     ensures few { IfOk result (λ t. too_many t ≡ false) }
 {
-    let kind = reader.word::<Kind>(line, Close::Space)?;
-    match kind {
-        Kind::Market => {
-            let volume = reader.number(line, 1, 100_000, Close::Line)?;
-            Ok(Terms::Market(volume))
-        }
-        Kind::Step => {
-            let steps = read_quotes(reader, line)?;
-            Ok(Terms::Step(steps))
-        }
-        Kind::Linear => {
-            let slopes = read_quotes(reader, line)?;
-            Ok(Terms::Linear(slopes))
-        }
+    match reader.word::<Kind>(line, Close::Space)? {
+        Kind::Market => Ok(Terms::Market(reader.number(line, 1, 100_000, Close::Line)?)),
+        Kind::Step => Ok(Terms::Step(read_quotes(reader, line)?)),
+        Kind::Linear => Ok(Terms::Linear(read_quotes(reader, line)?)),
     }
 }
 
-fn read_row(reader: &mut Reader, line: usize) -> Result<u32, Fault>
-    ensures told { told result reader.new ≡ (item (number 0 255) 32).read line reader.old.at (ahead reader.old) }
-    ensures input { reader.new.input.now ≡ reader.old.input.now }
-{
-    reader.number(line, 0, 255, Close::Space)
-}
-
-fn read_member(reader: &mut Reader, line: usize) -> Result<u32, Fault>
-    ensures told { told result reader.new ≡ (item (number 1 999) 32).read line reader.old.at (ahead reader.old) }
-    ensures input { reader.new.input.now ≡ reader.old.input.now }
-{
-    reader.number(line, 1, 999, Close::Space)
-}
-
-fn read_product(reader: &mut Reader, line: usize) -> Result<u32, Fault>
-    ensures told { told result reader.new ≡ (item (number 1 38) 32).read line reader.old.at (ahead reader.old) }
-    ensures input { reader.new.input.now ≡ reader.old.input.now }
-{
-    reader.number(line, 1, 38, Close::Space)
-}
-
 // The items of an order in the line that begins at `line`.
+#[tactic(auto, using(crate::proofs::Described::faithful_order), unfolding(crate::specs::Lines::order_text, book::specs::Drafted::asked_of))]
 pub fn read_order(reader: &mut Reader, line: usize) -> Result<Draft, Fault>
     ensures told { told (viewed asked_of result) reader.new ≡ order_text.read line reader.old.at (ahead reader.old) }
     ensures input { reader.new.input.now ≡ reader.old.input.now }
     ensures few { IfOk result (λ d. too_many d.terms ≡ false) }
     ensures faithful { Faithful order_text }
 {
-    let row = read_row(reader, line)?;
-    let member = read_member(reader, line)?;
-    let product = read_product(reader, line)?;
+    let row = reader.number(line, 0, 255, Close::Space)?;
+    let member = reader.number(line, 1, 999, Close::Space)?;
+    let product = reader.number(line, 1, 38, Close::Space)?;
     let word = reader.word::<SideWord>(line, Close::Space)?;
     let terms = read_terms(reader, line)?;
     Ok(Draft {

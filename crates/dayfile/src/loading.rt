@@ -1,8 +1,7 @@
 // A day, from its bytes into the tables it is lent.
-ghost use Rattle.std.specs.Prelude.{◌≡◌, ◌≤◌, length, replicate, OnErr};
+ghost use Rattle.std.specs.Prelude.{◌≡◌, ◌≤◌, None, length, replicate, OnErr};
 ghost use Rattle.faults.specs.Answers.{viewed};
 ghost use Rattle.book.specs.Views.{places};
-ghost use Rattle.book.specs.declared.rows.Row.TheVariants.{Empty};
 ghost use Rattle.text.specs.Format.{Faithful, onward, got};
 ghost use Rattle.text.specs.Tokens.{told, ahead};
 ghost use Rattle.dayfile.specs.Day.{empty_places, day_text};
@@ -18,6 +17,7 @@ use faults::fault::{Fault, Refusal};
 use text::reader::Reader;
 
 // The three sections, the orders into an empty table.
+#[tactic(auto, unfolding(crate::specs::Day::day_text))]
 fn read_day(reader: &mut Reader, rows: &mut [Row]) -> Result<Opening, Fault>
     requires whole { length rows.old ≡ 256 }
     requires empty { places rows.old ≡ empty_places }
@@ -34,16 +34,10 @@ fn read_day(reader: &mut Reader, rows: &mut [Row]) -> Result<Opening, Fault>
     })
 }
 
-fn right_lengths(rows: usize, hours: usize, marks: usize, posts: usize) -> bool
-    ensures { result ≡ right_lengths rows hours marks posts }
-{
-    rows == 256 && hours == 24 && marks == 256 && posts == 128
-}
-
 // After a refusal: the reader back where it was, and every row empty.
 fn undo(reader: &mut Reader, start: usize, table: &mut [Row])
     requires { start ≤ length reader.old.input.now }
-    ensures rows { table.new ≡ replicate (length table.old) Empty }
+    ensures rows { table.new ≡ replicate (length table.old) None }
     ensures at { reader.new.at ≡ start }
     ensures input { reader.new.input.now ≡ reader.old.input.now }
 {
@@ -55,6 +49,7 @@ fn undo(reader: &mut Reader, start: usize, table: &mut [Row])
 // other place is emptied. The answer carries what else the day begins with, and the reader stands where its text ends.
 // A refused load leaves every place empty, and the reader where it was. What is accepted is the text of the day that it
 // leaves (`text`).
+#[tactic(auto, using(crate::proofs::Described::faithful_day))]
 pub fn load<H: Blank, M: Blank, P: Blank>(
     reader: &mut Reader,
     rows: &mut [Row],
@@ -76,15 +71,14 @@ pub fn load<H: Blank, M: Blank, P: Blank>(
     clear(hours);
     clear(marks);
     clear(posts);
-    if !right_lengths(rows.len(), hours.len(), marks.len(), posts.len()) {
+    if rows.len() != 256 || hours.len() != 24 || marks.len() != 256 || posts.len() != 128 {
         return Err(Refusal::WrongLength.without_text());
     }
     let start = reader.at;
-    match read_day(reader, rows) {
-        Ok(opening) => Ok(opening),
-        Err(fault) => {
-            undo(reader, start, rows);
-            Err(fault)
-        }
+    // Not in a closure: of what one alters, the proof of its caller learns nothing.
+    let opened = read_day(reader, rows);
+    if opened.is_err() {
+        undo(reader, start, rows);
     }
+    opened
 }

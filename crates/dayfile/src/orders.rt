@@ -1,6 +1,5 @@
 // The orders of a day, each entered as its line is read.
 ghost use Rattle.std.specs.Prelude.{◌≡◌, ◌<◌, false, length, OnOk};
-ghost use Rattle.faults.specs.Refusals.{fault};
 ghost use Rattle.book.specs.Drafted.{too_many, asked_of};
 ghost use Rattle.book.specs.Entering.{written};
 ghost use Rattle.book.specs.Views.{places};
@@ -18,16 +17,6 @@ use book::rows::Row;
 use faults::fault::Fault;
 use text::reader::Reader;
 
-// A fault of a call without text, in the line that begins at `line`.
-fn at_line(why: Fault, line: usize) -> Fault
-    ensures { result ≡ fault why.refusal line }
-{
-    Fault {
-        refusal: why.refusal,
-        line,
-    }
-}
-
 // Enters the order of a line that was read.
 fn enter_order(
     rows: &mut [Row],
@@ -41,14 +30,9 @@ fn enter_order(
     ensures rule { Ruled (line_rule blocks (book_of (places rows.old) given) (asked_of draft.now)) line result }
     ensures leaves { OnOk result (places rows.new ≡ written (places rows.old) given (asked_of draft.now)) }
 {
-    let ticket = match admit(draft, blocks) {
-        Ok(ticket) => ticket,
-        Err(why) => return Err(at_line(why, line)),
-    };
-    match enter(rows, given, &ticket) {
-        Ok(_) => Ok(()),
-        Err(why) => Err(at_line(why, line)),
-    }
+    let ticket = admit(draft, blocks).map_err(|why| why.refusal.in_line(line))?;
+    enter(rows, given, &ticket).map_err(|why| why.refusal.in_line(line))?;
+    Ok(())
 }
 
 // As many order lines as there are orders.
@@ -66,6 +50,7 @@ fn read_lines(reader: &mut Reader, rows: &mut [Row], n: u32, blocks: usize) -> R
 }
 
 // The orders, into an empty table; how many there are.
+#[tactic(auto, unfolding(crate::specs::Day::orders_text))]
 pub(crate) fn read_orders(
     reader: &mut Reader,
     rows: &mut [Row],

@@ -6,35 +6,32 @@ use book::tables::is_taken;
 use faults::fault::{Fault, Refusal};
 use std::test::Fail;
 use text::close::Close;
+use text::page::Page;
 use text::reader::Reader;
-use text::write::{put_number_item, put_word};
 
 fn open(reader: &mut Reader, rows: &mut [Row]) -> Result<Opening, Fault> {
-    let mut hours = [Row::Empty; 24];
-    let mut marks = [Row::Empty; 256];
-    let mut posts = [Row::Empty; 128];
+    let mut hours = [None; 24];
+    let mut marks = [None; 256];
+    let mut posts = [None; 128];
     load(reader, rows, &mut hours, &mut marks, &mut posts)
 }
 
 // The fault of a day that is nothing but `text`.
 fn fault_of(text: &[u8]) -> Option<Fault> {
-    let mut rows = [Row::Empty; 256];
+    let mut rows = [None; 256];
     let mut reader = Reader::new(text);
-    match open(&mut reader, &mut rows) {
-        Ok(_) => None,
-        Err(fault) => Some(fault),
-    }
+    open(&mut reader, &mut rows).err()
 }
 
 // The fault of a day of one block and two orders whose lines, from byte 77 on, are `lines`.
 fn fault_in(lines: &[u8]) -> Option<Fault> {
-    let mut text = [0; 160];
-    let at = put_word(
-        &mut text,
-        0,
+    let mut page: Page<160> = Page::new();
+    page.word(
         b"hours 24\n1 1 1 1 1 1 1 1 1 1 1 1 1 1 1 1 1 1 1 1 1 1 1 1\nblocks 1\n3\norders 2\n",
     );
-    put_word(&mut text, at, lines);
+    page.word(lines);
+    let mut text = [0; 160];
+    text[..page.text().len()].copy_from_slice(page.text());
     fault_of(&text)
 }
 
@@ -91,7 +88,7 @@ fn order_lines_are_refused_in_sequence(rt: HostRuntime) {
 
 #[test]
 fn an_accepted_day_stands_in_its_tables(rt: HostRuntime) -> Result<(), Fail> {
-    let mut rows = [Row::Empty; 256];
+    let mut rows = [None; 256];
     let mut reader = Reader::new(
         b"hours 24\n1 1 1 1 1 1 1 1 1 1 1 1 1 1 1 1 1 1 1 1 1 1 1 9\nblocks 1\n3\norders 1\n5 7 25 buy market 10\ncalls 0\n",
     );
@@ -101,37 +98,32 @@ fn an_accepted_day_stands_in_its_tables(rt: HostRuntime) -> Result<(), Fail> {
     assert_eq!(rt; opening.given, 1);
     assert!(rt; is_taken(&rows, 5));
     assert_eq!(rt; reader.at, 98);
-    let mut short = [Row::Empty; 255];
-    assert!(rt;
-        match open(&mut reader, &mut short) {
-            Ok(_) => false,
-            Err(fault) => fault == Refusal::WrongLength.without_text(),
-        }
+    let mut short = [None; 255];
+    assert_eq!(rt;
+        open(&mut reader, &mut short).err(),
+        Some(Refusal::WrongLength.without_text())
     );
     Ok(())
 }
 
 // Order lines for the rows from 0 to `n`, all for one product.
-fn put_lines(text: &mut [u8], from: usize, n: u64, product: u64) {
-    let mut at = from;
+fn put_lines(page: &mut Page<8192>, n: u64, product: u64) {
     for row in 0..n {
-        at = put_number_item(text, at, row, Close::Space);
-        at = put_word(text, at, b"7 ");
-        at = put_number_item(text, at, product, Close::Space);
-        at = put_word(text, at, b"buy market 10\n");
+        page.number_item(row, Close::Space);
+        page.word(b"7 ");
+        page.number_item(product, Close::Space);
+        page.word(b"buy market 10\n");
     }
 }
 
 // The fault of a day of one block with such orders.
 fn fault_of_many(n: u64, product: u64) -> Option<Fault> {
+    let mut page: Page<8192> = Page::new();
+    page.word(b"hours 24\n1 1 1 1 1 1 1 1 1 1 1 1 1 1 1 1 1 1 1 1 1 1 1 1\nblocks 1\n3\norders ");
+    page.number_item(n, Close::Line);
+    put_lines(&mut page, n, product);
     let mut text = [0; 8192];
-    let at = put_word(
-        &mut text,
-        0,
-        b"hours 24\n1 1 1 1 1 1 1 1 1 1 1 1 1 1 1 1 1 1 1 1 1 1 1 1\nblocks 1\n3\norders ",
-    );
-    let lines = put_number_item(&mut text, at, n, Close::Line);
-    put_lines(&mut text, lines, n, product);
+    text[..page.text().len()].copy_from_slice(page.text());
     fault_of(&text)
 }
 

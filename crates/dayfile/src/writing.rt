@@ -1,50 +1,27 @@
 // The text of a day, written into a lent output.
-ghost use Rattle.std.specs.Prelude.{◌≡◌, ◌≤◌, length, take, ◌==◌, nat_lt};
+ghost use Rattle.std.specs.Prelude.{◌≡◌, length};
 ghost use Rattle.book.specs.Views.{places, sets_of};
+ghost use Rattle.text.specs.Pages.{printed};
 ghost use Rattle.dayfile.specs.Sequence.{Sequenced};
 ghost use Rattle.dayfile.specs.Entered.{Proper, Returns};
-ghost use Rattle.dayfile.specs.Written.{Wrote, day_in, bytes_of, write_answer, output_after};
+ghost use Rattle.dayfile.specs.Written.{day_in, bytes_of, write_answer, output_after};
 
 use crate::opening::Opening;
+use crate::pages::DayPage;
 use crate::putting::{put_blocks, put_references, put_table};
 use book::rows::Row;
 use faults::fault::{Fault, Refusal};
-use text::write::put_word;
 
-fn put_day(out: &mut [u8], opening: &Opening, rows: &[Row]) -> usize
+fn print(opening: &Opening, rows: &[Row]) -> DayPage
     requires { length rows.now ≡ 256 }
-    ensures wrote { Wrote out.old 0 (bytes_of opening.now rows.now) out.new result }
+    ensures is { result ≡ bytes_of opening.now rows.now }
     ensures hours { length opening.now.references ≡ 24 }
 {
-    let blocks = put_references(out, 0, &opening.references);
-    let table = put_blocks(out, blocks, &opening.blocks);
-    put_table(out, table, rows)
-}
-
-// The text on a page that has room for any day's.
-fn fill(page: &mut [u8], opening: &Opening, rows: &[Row]) -> usize
-    requires room { 40000 ≤ length page.old }
-    requires rows { length rows.now ≡ 256 }
-    ensures len { result ≡ length (bytes_of opening.now rows.now) }
-    ensures text { take result page.new ≡ bytes_of opening.now rows.now }
-    ensures fits { result ≤ length page.old }
-    ensures hours { length opening.now.references ≡ 24 }
-{
-    put_day(page, opening, rows)
-}
-
-// Whether this is a whole order table.
-fn is_table(rows: &[Row]) -> bool
-    ensures { result ≡ (length rows.now == 256) }
-{
-    rows.len() == 256
-}
-
-// Whether so many bytes have no room in an output.
-fn too_short(out: &[u8], n: usize) -> bool
-    ensures { result ≡ nat_lt (length out.now) n }
-{
-    out.len() < n
+    let mut page = DayPage::new();
+    put_references(&mut page, &opening.references);
+    put_blocks(&mut page, &opening.blocks);
+    put_table(&mut page, rows);
+    page
 }
 
 // Writes a day's text at the front of the output and answers its length. The text is made on a page of its own first,
@@ -56,13 +33,14 @@ pub fn write(opening: &Opening, rows: &[Row], out: &mut [u8]) -> Result<usize, F
     ensures ordered { Sequenced (places rows.now) }
     ensures returns { Proper (length (sets_of opening.now.blocks)) (places rows.now) → Returns (day_in opening.now rows.now) }
 {
-    if !is_table(rows) {
+    if rows.len() != 256 {
         return Err(Refusal::WrongLength.without_text());
     }
-    let mut page = [0; 40_000];
-    let n = fill(&mut page, opening, rows);
-    if too_short(out, n) {
+    let page = print(opening, rows);
+    let text = page.text();
+    if out.len() < text.len() {
         return Err(Refusal::WrongLength.without_text());
     }
-    Ok(put_word(out, 0, &page[0..n]))
+    out[..text.len()].copy_from_slice(text);
+    Ok(text.len())
 }

@@ -50,7 +50,7 @@ fn fill(rows: &mut [Row]) -> Result<(), Fault> {
 
 #[test]
 fn orders_stand_in_stamp_sequence(rt: HostRuntime) -> Result<(), Fail> {
-    let mut rows = [Row::Empty; 256];
+    let mut rows = [None; 256];
     fill(&mut rows)?;
     let mut out = [b'.'; 200];
     assert_eq!(rt; write(&opening()?, &rows, &mut out), Ok(197));
@@ -64,7 +64,7 @@ fn orders_stand_in_stamp_sequence(rt: HostRuntime) -> Result<(), Fail> {
 
 #[test]
 fn a_short_output_is_left_as_it_was(rt: HostRuntime) -> Result<(), Fail> {
-    let mut rows = [Row::Empty; 256];
+    let mut rows = [None; 256];
     fill(&mut rows)?;
     let mut out = [b'.'; 196];
     let refused = Err(Refusal::WrongLength.without_text());

@@ -57,13 +57,20 @@ impl Refusal {
         }
     }
 
+    // The fault of a text whose line begins at `line`.
+    pub fn in_line(self, line: usize) -> Fault
+        ensures { result ≡ fault self line }
+    {
+        Fault {
+            refusal: self,
+            line,
+        }
+    }
+
     // The fault of a call that has no text.
     pub fn without_text(self) -> Fault
         ensures { result ≡ fault self 0 }
     {
-        Fault {
-            refusal: self,
-            line: 0,
-        }
+        self.in_line(0)
     }
 }

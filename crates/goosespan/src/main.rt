@@ -1,8 +1,6 @@
 // Reads a day file from the standard input, clears the day, and prints its hours, blocks and shares, or why it is refused.
 #![tactic(auto)]
 
-ghost use Rattle.goosespan.specs.declared.Later.TheVariants.{Empty};
-
 use book::blanks::Blank;
 use book::blocks::Blocks;
 use book::rows::Row;
@@ -11,9 +9,9 @@ use clearing::fixing::fix;
 use clearing::marks::Mark;
 use clearing::results::HourResult;
 use clearing::sharing::hour_shares;
-use curves::sides::Side;
 use dayfile::loading::load;
 use faults::fault::{Fault, Refusal};
+use posting::fills::Fill;
 use std::io;
 use std::io::Read;
 use text::reader::Reader;
@@ -21,7 +19,7 @@ use text::reader::Reader;
 // The most bytes that an input may have.
 const LIMIT: usize = 65_536;
 
-// What stops the program: a refusal, or an output that fails.
+// What stops the program: a refusal, or an output that fails. Its own beside the report's, which knows no output.
 #[derive(Drop)]
 enum Stop {
     Refused(Fault),
@@ -40,23 +38,8 @@ impl From<io::Error> for Stop {
     }
 }
 
-// Post places, which a load empties and this program does not use yet.
-#[derive(Clone, Copy)]
-enum Later {
-    Empty,
-}
-
-impl Blank for Later {
-    ghost blank = { Empty };
-
-    fn blank() -> Later {
-        Later::Empty
-    }
-}
-
 fn print_hours(rt: &impl Print, hours: &[HourResult; 24]) -> io::Result<()> {
-    for (i, result) in hours.iter().enumerate() {
-        let hour = i.saturating_add(1);
+    for (hour, result) in (1u8..).zip(hours) {
         let price = result.price;
         let volume = result.executed;
         if volume > 0 {
@@ -67,12 +50,8 @@ fn print_hours(rt: &impl Print, hours: &[HourResult; 24]) -> io::Result<()> {
 }
 
 fn print_blocks(rt: &impl Print, blocks: &Blocks, hours: &[HourResult; 24]) -> Result<(), Stop> {
-    for k in 0..14 {
-        let Some(set) = blocks.get(k) else {
-            return Ok(());
-        };
-        let block = k + 1;
-        let price = block_price(set, hours)?;
+    for (block, set) in (1u8..).zip(blocks.listed()) {
+        let price = block_price(*set, hours)?;
         println!(rt; "block {block} price {price}")?;
     }
     Ok(())
@@ -86,24 +65,15 @@ fn shares_of(
     hours: &[HourResult; 24],
 ) -> Result<[[u64; 256]; 24], Fault> {
     let mut shares = [[0; 256]; 24];
-    for i in 0..24 {
-        hour_shares(
-            rows,
-            blocks,
-            marks,
-            i as u8 + 1,
-            &hours[i],
-            0,
-            &mut shares[i],
-        )?;
+    for ((hour, result), shares) in (1..).zip(hours).zip(shares.iter_mut()) {
+        hour_shares(rows, blocks, marks, hour, result, 0, shares)?;
     }
     Ok(shares)
 }
 
 fn print_row(rt: &impl Print, row: usize, shares: &[[u64; 256]; 24]) -> io::Result<()> {
-    for i in 0..24 {
-        let hour = i + 1;
-        let share = if row < 256 { shares[i][row] } else { 0 };
+    for (hour, shares) in (1u8..).zip(shares) {
+        let share = shares.get(row).copied().unwrap_or(0);
         if share > 0 {
             println!(rt; "row {row} hour {hour} share {share}")?;
         }
@@ -115,22 +85,13 @@ fn clear_day(rt: &impl Print, input: &[u8]) -> Result<(), Stop> {
     if input.len() > LIMIT {
         return Err(Refusal::WrongLength.without_text().into());
     }
-    let mut rows = [Row::Empty; 256];
-    let mut hours = [HourResult {
-        price: 0,
-        executed: 0,
-        surplus: 0,
-        side: Side::Sell,
-    }; 24];
+    let mut rows = [None; 256];
+    let mut hours = [HourResult::blank(); 24];
     let mut marks = [Mark::Kept; 256];
+    // A load empties a post list too, which this program does not use yet.
+    let mut posts = [Fill::blank(); 128];
     let mut reader = Reader::new(input);
-    let opening = load(
-        &mut reader,
-        &mut rows,
-        &mut hours,
-        &mut marks,
-        &mut [Later::Empty; 128],
-    )?;
+    let opening = load(&mut reader, &mut rows, &mut hours, &mut marks, &mut posts)?;
     fix(
         &rows,
         &opening.blocks,
@@ -141,6 +102,7 @@ fn clear_day(rt: &impl Print, input: &[u8]) -> Result<(), Stop> {
     print_hours(rt, &hours)?;
     print_blocks(rt, &opening.blocks, &hours)?;
     let shares = shares_of(&rows, &opening.blocks, &marks, &hours)?;
+    // By number: the row's number is what is printed.
     for row in 0..256 {
         print_row(rt, row, &shares)?;
     }

@@ -13,7 +13,7 @@ use Rattle.day.specs.States.{State}
 use Rattle.day.specs.Answers.{judged, offers, further, refusals, value, first, answer}
 
 pub never : {A B : Type 0} {f : Fault} {v : A} → ◌≡◌ {A = Result A Fault} (Ok v) (Err f) → B
-never e = let z : ◌≡◌ {A = ℕ} 0 1 = cc in absurd (omega arith)
+never e = absurd cc
 
 decide_at : {A : Type 0} (t : Bool) (g : Fault) (y : Result A Fault) (v : A) → Ok v ≡ cond t (Err g) y → (t ≡ false) × (Ok v ≡ y)
 decide_at true g y v e = never e
@@ -32,7 +32,7 @@ first_ok (Err f) x v e = never e
 
 not-false : (t : Bool) → not t ≡ false → t ≡ true
 not-false true e = refl
-not-false false e = let z : ◌≡◌ {A = ℕ} 0 1 = cc in absurd (omega arith)
+not-false false e = absurd cc
 
 pub record Grants (d : State) (m : Move) (v : ℕ) : Type 0 where
   pub alone : judged (length d.sets) m ≡ Ok tt

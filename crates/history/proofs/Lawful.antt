@@ -1,6 +1,7 @@
 -- The law of every day that a history tells.
 use Rattle.std.proofs.Common.{◌≡◌, ℕ, suc, ◌+◌, false, List, [], ◌∷◌, length, Ok, sym, refl, ap, ◌∙◌, subst, inl, inr, arith}
 use Rattle.std.proofs.lemmas.List.{get_or_past}
+use Rattle.std.proofs.lemmas.List.Elements.{recursion_from_All}
 use Rattle.std.proofs.lemmas.Bool.Decides.{leb_tells}
 use Rattle.book.specs.Bids.{Asked, Bid, Place, vacant, held}
 use Rattle.book.specs.Places.{place_at}
@@ -43,13 +44,13 @@ module _ (refs sets : List ℕ) where
 
   pub law_told : (h : List Event) → Answered refs sets h → (is_open (state_told refs sets h).phase ≡ false → Standing (state_told refs sets h)) → DayLaw refs sets h (state_told refs sets h)
   law_told h a prices = record {
-    untouched = λ k l f. table_at h k l ∙ untouched_told k h f;
-    last = λ k l later e earlier p f t. table_at h k l ∙ ap (row_told k) p ∙ last_told k later e earlier f t;
+    untouched = λ k l f. table_at h k l ∙ untouched_told k h (recursion_from_All _ h f);
+    last = λ k l later e earlier p f t. table_at h k l ∙ ap (row_told k) p ∙ last_told k later e earlier (recursion_from_All _ later f) t;
     stamps = refl;
-    opens = opens_told h;
-    led = λ later e earlier q p f g t. ap (λ x. (state_told refs sets x).phase) p ∙ led_told later e earlier q f g t;
+    opens = λ f. opens_told h (recursion_from_All _ h f);
+    led = λ later e earlier q p f g t. ap (λ x. (state_told refs sets x).phase) p ∙ led_told later e earlier q (recursion_from_All _ later f) g t;
     none = (phased refs sets h a).none;
-    fixed = λ later e earlier p f g t. subst (λ x. SinceFix refs sets earlier e.answer (state_told refs sets x)) (sym p) (since_fix_told refs sets later e earlier (subst (Answered refs sets) p a) f g t);
+    fixed = λ later e earlier p f g t. subst (λ x. SinceFix refs sets earlier e.answer (state_told refs sets x)) (sym p) (since_fix_told refs sets later e earlier (subst (Answered refs sets) p a) (recursion_from_All _ later f) g t);
     posts = refl;
     answered = λ later e earlier p. answered_told refs sets later e earlier (subst (Answered refs sets) p a);
     stamped = stamped_told h a;

@@ -35,7 +35,7 @@ rule_parts n b a e = go (verdict n a) refl
   where
     go : (v : Result (Unit {0}) Fault) → verdict n a ≡ v → (verdict n a ≡ Ok tt) × (enter_answer b.places b.given a ≡ Ok (b.given + 1))
     go (Ok u) h = let e' : ruling (enter_answer b.places b.given a) ≡ granted = rw h at e in (h, enters_when b.places b.given a (enters_parts b.places b.given a e'))
-    go (Err f) h = let e' : denied f.refusal ≡ granted = rw h at e in let z : ◌≡◌ {A = ℕ} 0 1 = cc in absurd (omega arith)
+    go (Err f) h = let e' : denied f.refusal ≡ granted = rw h at e in absurd cc
 
 module _ (refs sets : List ℕ) where
   abbrev told : List Event → State

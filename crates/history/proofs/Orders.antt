@@ -55,7 +55,7 @@ set_cases r k x y b e = elim (eqb_tells r k) [
 ]
 
 pub vacant_held : {X : Type 0} (b : Bid) → vacant ≡ held b → X
-vacant_held b e = let z : ◌≡◌ {A = ℕ} 0 1 = cc in absurd (omega arith)
+vacant_held b e = absurd cc
 
 held_is : (a b : Bid) → held a ≡ held b → a ≡ b
 held_is a b e = cc

@@ -1,5 +1,5 @@
 -- Results, marks and the post list by the phase: zero while open, cleared from a fix on, and no post before a confirm.
-use Rattle.std.proofs.Common.{◌≡◌, ℕ, Bool, true, false, List, [], ◌∷◌, ◌++◌, Ok, Err, Result, sym, refl, ap, ◌∙◌, subst, append-nil, arith}
+use Rattle.std.proofs.Common.{◌≡◌, ℕ, Bool, true, false, List, [], ◌∷◌, ◌++◌, Ok, Err, Result, sym, refl, ap, ◌∙◌, subst, append-nil}
 use Rattle.std.specs.List.{AllByRecursion}
 use Rattle.faults.specs.declared.fault.Fault.{Fault}
 use Rattle.calls.specs.Moves.{Move, entering, changing, withdrawing, fixing, recalling, confirming, posting, finishing, overfull}
@@ -18,7 +18,7 @@ use Rattle.history.proofs.Steps.{none_filled}
 use Rattle.history.proofs.Splits.{answered_told}
 
 pub no_way : {X : Type 0} → true ≡ false → X
-no_way e = let z : ◌≡◌ {A = ℕ} 0 1 = cc in absurd (omega arith)
+no_way e = absurd cc
 
 -- no post order was taken yet
 abbrev pub before_post : Phase → Bool

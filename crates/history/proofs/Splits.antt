@@ -1,5 +1,5 @@
 -- What a history says of a row and of the phase, at the last granted call that decides it.
-use Rattle.std.proofs.Common.{◌≡◌, ℕ, Bool, true, false, cond, ◌&&◌, List, [], ◌∷◌, ◌++◌, is_some, Some, None, Option, refl, ◌∙◌, arith}
+use Rattle.std.proofs.Common.{◌≡◌, ℕ, Bool, true, false, cond, ◌&&◌, List, [], ◌∷◌, ◌++◌, is_some, Some, None, Option, refl, ◌∙◌}
 use Rattle.std.specs.List.{AllByRecursion}
 use Rattle.book.specs.Bids.{vacant}
 use Rattle.day.specs.declared.phases.Phase.{Phase}
@@ -21,7 +21,7 @@ last_told k (x ∷ later) e earlier a t = rw a.0 (last_told k later e earlier a.
 -- a call that leads nowhere keeps the phase
 not_led : (g : Bool) (o : Option Phase) (p : Phase) → (g && is_some o) ≡ false → cond g (led_to o p) p ≡ p
 not_led true None p e = refl
-not_led true (Some q) p e = let z : ◌≡◌ {A = ℕ} 0 1 = cc in absurd (omega arith)
+not_led true (Some q) p e = absurd cc
 not_led false o p e = refl
 
 pub opens_told : (h : List Event) → AllByRecursion (λ e. leads e ≡ false) h → phase_told h ≡ Open

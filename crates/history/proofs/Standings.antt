@@ -1,12 +1,13 @@
 -- Wherever prices stand: best price, blocks, priority and balance of a day with the rows that it holds.
-use Rattle.std.proofs.Common.{◌≡◌, ℕ, ◌+◌, ◌-◌, ◌<◌, ◌≤◌, Bool, true, false, cond, List, length, sum, sym, refl, ap, ◌∙◌, subst, arith}
+use Rattle.std.proofs.Common.{◌≡◌, ℕ, ◌+◌, ◌-◌, ◌<◌, ◌≤◌, Bool, true, false, cond, List, length, sum, sym, refl, ap, ◌∙◌, subst, arith, Option}
 use Rattle.std.specs.List.{AllByRecursion}
+use Rattle.std.proofs.lemmas.List.Elements.{All-from_recursion}
 use Rattle.book.specs.Bids.{Place}
 use Rattle.book.specs.Places.{blocks_held}
 use Rattle.book.specs.Shown.{same_side}
 use Rattle.book.specs.Views.{places, sets_of}
 use Rattle.dayfile.specs.Views.{tick_values}
-use Rattle.book.specs.declared.rows.Row.{Row}
+use Rattle.book.specs.declared.entries.Entry.{Entry}
 use Rattle.clearing.specs.declared.marks.Mark.{Mark}
 use Rattle.clearing.specs.declared.results.HourResult.{HourResult}
 use Rattle.clearing.specs.Hours.{day_hours}
@@ -43,7 +44,7 @@ on_both_sides : (t : Bool) (shares executed filled on : ℕ) → shares ≡ cond
 on_both_sides true shares executed filled on e f g = omega (arith, f refl)
 on_both_sides false shares executed filled on e f g = omega (arith, g refl)
 
-module _ (p : Phase) (o : Opening) (rows : List Row) (rs : List HourResult) (ms : List Mark) (fs : List Fill) where
+module _ (p : Phase) (o : Opening) (rows : List (Option Entry)) (rs : List HourResult) (ms : List Mark) (fs : List Fill) where
   abbrev day : State
   day = state_of p o (places rows) rs ms fs
 
@@ -73,5 +74,5 @@ module _ (p : Phase) (o : Opening) (rows : List Row) (rs : List HourResult) (ms 
             on_both_sides (same_side side r.side) (sum (shares_on ps sets ms h r (filled_in (h + 1) fs) side)) r.executed (filled_in (h + 1) fs) (filled_on side (h + 1) fs)
             ((shared h l).balance apart from (left h) side) (filled_on_side rs h side fs opposite) (filled_off rs h side fs opposite);
         within = λ h l. left h;
-        opposite = opposite;
+        opposite = All-from_recursion (Facing rs) fs opposite;
       }

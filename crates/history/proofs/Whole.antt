@@ -1,5 +1,5 @@
 -- A run is what its text and its calls lead to.
-use Rattle.std.proofs.Common.{◌≡◌, ℕ, Bool, true, List, [], drop, Ok, Result, sym, refl, ap, ◌∙◌, subst, arith}
+use Rattle.std.proofs.Common.{◌≡◌, ℕ, Bool, true, List, [], drop, Ok, Result, sym, refl, ap, ◌∙◌, subst}
 use Rattle.faults.specs.declared.fault.Fault.{Fault}
 use Rattle.calls.specs.Moves.{Move}
 use Rattle.text.specs.Format.{Outcome, got, refused, onward}
@@ -13,7 +13,7 @@ use Rattle.history.proofs.Loads.{load_fits}
 module _ (ms : List Move) (old rs : List (Result ℕ Fault)) (s₀ s : State) where
   ran : (bs : List ℕ) (o : Outcome DayText) (q : ℕ) (cs : List ℕ) → day_text.read 0 0 bs ≡ o → got s₀ q cs ≡ onward o (λ d r ds. got (opened_day d) r ds)
       → ((h : List Event) → IsTold h s₀ → Played s₀.references s₀.sets h ms rs s) → Ran o ms old rs (Ok s)
-  ran bs (refused f) q cs is e play = let z : ◌≡◌ {A = ℕ} 0 1 = cc in absurd (omega arith)
+  ran bs (refused f) q cs is e play = absurd cc
   ran bs (got d r ds) q cs is e play =
       let h = loaded 0 d.orders [] in
       let opened : s₀ ≡ opened_day d = cc in

@@ -1,6 +1,5 @@
 -- The law of a day, in the auction's words: what its history says of its orders, its phase, its prices and its post list.
-use Rattle.std.specs.Prelude.{◌≡◌, ℕ, ◌+◌, ◌-◌, ◌<◌, ◌≤◌, Bool, true, false, ◌&&◌, List, ◌∷◌, ◌++◌, length, is_some, Some, Ok, sum, Result}
-use Rattle.std.specs.List.{AllByRecursion}
+use Rattle.std.specs.Prelude.{◌≡◌, ℕ, ◌+◌, ◌-◌, ◌<◌, ◌≤◌, Bool, true, false, ◌&&◌, List, ◌∷◌, ◌++◌, length, All, is_some, Some, Ok, sum, Result}
 use Rattle.faults.specs.declared.fault.Fault.{Fault}
 use Rattle.curves.specs.declared.sides.Side.{Side}
 use Rattle.book.specs.Bids.{vacant}
@@ -46,7 +45,7 @@ pub record Standing (d : State) : Type 0 where
       ≡ (result_at d.results h).executed + filled_in (h + 1) d.posts
   -- post fills never exceed the surplus, and stand on the side opposite to it
   pub within : (h : ℕ) → h < day_hours → filled_in (h + 1) d.posts ≤ (result_at d.results h).surplus
-  pub opposite : AllByRecursion (λ f. same_side f.side (result_at d.results (f.hour - 1)).side ≡ false) d.posts
+  pub opposite : All (λ f. same_side f.side (result_at d.results (f.hour - 1)).side ≡ false) d.posts
 
 module _ (refs sets : List ℕ) where
   -- a fix that was granted after the history `earlier`, where no recall was granted since
@@ -59,21 +58,21 @@ module _ (refs sets : List ℕ) where
 
   pub record DayLaw (h : List Event) (d : State) : Type 0 where
     -- a row that no granted call names is empty
-    pub untouched : (k : ℕ) → k < 256 → AllByRecursion (λ e. touches k e ≡ false) h → place_at d.places k ≡ vacant
+    pub untouched : (k : ℕ) → k < 256 → All (λ e. touches k e ≡ false) h → place_at d.places k ≡ vacant
     -- the last granted call that names a row decides what it holds; its stamp is the number of enters and changes granted up to it
     pub last : (k : ℕ) → k < 256 → (later : List Event) (e : Event) (earlier : List Event) → h ≡ later ++ (e ∷ earlier)
-        → AllByRecursion (λ x. touches k x ≡ false) later → touches k e ≡ true
+        → All (λ x. touches k x ≡ false) later → touches k e ≡ true
         → place_at d.places k ≡ put_under (stamps_given (e ∷ earlier)) (order_written e.move)
     pub stamps : d.given ≡ stamps_given h
     -- the phase is open at first, and then where the last granted fix, recall, confirm or finish led
-    pub opens : AllByRecursion (λ e. leads e ≡ false) h → d.phase ≡ Open
+    pub opens : All (λ e. leads e ≡ false) h → d.phase ≡ Open
     pub led : (later : List Event) (e : Event) (earlier : List Event) (p : Phase) → h ≡ later ++ (e ∷ earlier)
-        → AllByRecursion (λ x. leads x ≡ false) later → is_granted e ≡ true → phase_led e.move ≡ Some p → d.phase ≡ p
+        → All (λ x. leads x ≡ false) later → is_granted e ≡ true → phase_led e.move ≡ Some p → d.phase ≡ p
     -- in phase open results and marks are zero
     pub none : is_open d.phase ≡ true → (d.results ≡ no_results) × (d.marks ≡ no_marks)
     -- from a granted fix to the next granted recall they are those of clearing the orders at that fix, whose answer is the number of rounds
     pub fixed : (later : List Event) (e : Event) (earlier : List Event) → h ≡ later ++ (e ∷ earlier)
-        → AllByRecursion (λ x. recalls x ≡ false) later → is_granted e ≡ true → e.move ≡ fixing → SinceFix earlier e.answer d
+        → All (λ x. recalls x ≡ false) later → is_granted e ≡ true → e.move ≡ fixing → SinceFix earlier e.answer d
     -- the post list is the granted posts in sequence with their fills
     pub posts : d.posts ≡ posts_told h
     -- each answer is the first refusal, in the rules' sequence, whose condition holds of the history before it, or the value granted

@@ -25,6 +25,7 @@ use text::reader::Reader;
 impl Open {
     // Opens the day whose text begins at the reader's place, with its orders in the rows and nothing in the other tables.
     // A refused load leaves every place empty, and the reader where it was.
+    #[tactic(auto, unfolding(day::specs::States::no_results, day::specs::States::no_marks))]
     pub fn load(
         reader: &mut Reader,
         rows: &mut [Row],
@@ -43,9 +44,7 @@ impl Open {
         ensures faithful { Faithful day_text }
         ensures text { LoadsItsText }
     {
-        match load(reader, rows, hours, marks, posts) {
-            Ok(opening) => Ok(Open { opening }),
-            Err(fault) => Err(fault),
-        }
+        let opening = load(reader, rows, hours, marks, posts)?;
+        Ok(Open { opening })
     }
 }

@@ -1,5 +1,5 @@
 // The calls of post-trading.
-ghost use Rattle.std.specs.Prelude.{◌≡◌, ◌+◌, ◌<◌, List, length, Ok as Granted, MatchResult, OnOk};
+ghost use Rattle.std.specs.Prelude.{◌≡◌, ◌+◌, List, length, Ok as Granted, MatchResult};
 ghost use Rattle.book.specs.Bids.{Place};
 ghost use Rattle.calls.specs.declared.calls.Call.TheVariants.{Post as Posted, Finish};
 ghost use Rattle.calls.specs.Moves.{move_of};
@@ -18,30 +18,10 @@ use posting::fills::Fill;
 use posting::posting::post;
 
 impl Post {
-    // The order, and one place of the post list more.
-    fn take(
-        mut self,
-        hours: &[HourResult],
-        posts: &mut [Fill],
-        order: &PostOrder,
-    ) -> Result<(Post, u32), (Post, Fault)>
-        ensures value { said result ≡ post_answer hours.now posts.old self.posted order.now }
-        ensures listed { posts.new ≡ posts_after (said result) order.now self.posted posts.old }
-        ensures kept { MatchResult result (λ p. (p.0.opening ≡ self.opening) × (p.0.posted ≡ self.posted + 1)) (λ e. (e.0 ≡ self) × (posts.new ≡ posts.old)) }
-        ensures fits { OnOk result (self.posted < 128) }
-    {
-        match post(hours, posts, self.posted, order) {
-            Ok(fill) => {
-                self.posted += 1;
-                Ok((self, fill))
-            }
-            Err(fault) => Err((self, fault)),
-        }
-    }
-
     // Takes from what is left of an hour's surplus. Answers the fill.
+    #[tactic(auto, unfolding(posting::specs::Posts::post_decided))]
     pub fn post(
-        self,
+        mut self,
         hours: &[HourResult],
         posts: &mut [Fill],
         order: &PostOrder,
@@ -52,7 +32,14 @@ impl Post {
         ensures listed { posts.new ≡ posts_after (said result) order.now self.posted posts.old }
         ensures kept { MatchResult result (λ p. (p.0.opening ≡ self.opening) × (p.0.posted ≡ self.posted + 1)) (λ e. (e.0 ≡ self) × (posts.new ≡ posts.old)) }
     {
-        self.take(hours, posts, order)
+        // A refusal hands the day back, which a `?` would not.
+        match post(hours, posts, self.posted, order) {
+            Ok(fill) => {
+                self.posted += 1;
+                Ok((self, fill))
+            }
+            Err(fault) => Err((self, fault)),
+        }
     }
 
     // Ends post-trading.

@@ -14,7 +14,7 @@ ghost use Rattle.day.specs.States.{no_results, no_marks};
 ghost use Rattle.phases.specs.Views.{open_day, fixed_day, post_day, said, lent_right, right_prices};
 
 use crate::states::{Fixed, Open, Post};
-use book::blanks::{Blank, clear};
+use book::blanks::clear;
 use book::rows::Row;
 use clearing::fixing::fix;
 use clearing::marks::Mark;
@@ -23,7 +23,7 @@ use faults::fault::{Fault, Refusal};
 
 impl Open {
     // Clears the day's orders into results and marks. Answers the number of rounds.
-    #[tactic(auto, using(day::proofs::Valued::ticks_valued))]
+    #[tactic(auto, unfolding(clearing::specs::Clearing::ticks, dayfile::specs::Views::tick_values))]
     pub fn fix(
         self,
         rows: &[Row],
@@ -37,6 +37,7 @@ impl Open {
         ensures cleared { IfOk result (λ p. BlocksCleared (places rows.now) (sets_of self.opening.blocks) (ticks self.opening.references) p.1 hours.new marks.new) }
         ensures priced { IfOk result (λ p. HoursPriced (places rows.now) (sets_of self.opening.blocks) (ticks self.opening.references) p.1 hours.new marks.new) }
     {
+        // A refusal hands the day back, which a `?` would not.
         match fix(
             rows,
             &self.opening.blocks,
@@ -56,18 +57,9 @@ impl Open {
     }
 }
 
-// Results and marks of a day without prices.
-fn zero(hours: &mut [HourResult], marks: &mut [Mark])
-    requires { (length hours.old ≡ 24) × (length marks.old ≡ 256) }
-    ensures results { hours.new ≡ no_results }
-    ensures marks { marks.new ≡ no_marks }
-{
-    clear(hours);
-    clear(marks);
-}
-
 impl Fixed {
     // Opens the day again, without results and marks.
+    #[tactic(auto, unfolding(day::specs::States::no_results, day::specs::States::no_marks))]
     pub fn recall(
         mut self,
         hours: &mut [HourResult],
@@ -82,7 +74,8 @@ impl Fixed {
         if hours.len() != 24 || marks.len() != 256 {
             return Err((self, Refusal::WrongLength.without_text()));
         }
-        zero(hours, marks);
+        clear(hours);
+        clear(marks);
         self.settled = true;
         let open = Open {
             opening: self.opening,

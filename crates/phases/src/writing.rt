@@ -1,4 +1,4 @@
-// The text of a day, in any phase.
+// The text of a day, in any phase. Each phase is a type of its own with plain fields, so each says where its own lie.
 ghost use Rattle.std.specs.Prelude.{◌≡◌, length};
 ghost use Rattle.book.specs.Views.{places, sets_of};
 ghost use Rattle.dayfile.specs.Entered.{Proper, Returns};

@@ -1,13 +1,22 @@
--- The post fills of an hour, one fill after another.
-use Rattle.std.proofs.Common.{◌≡◌, ℕ, ◌+◌, ◌<◌, ◌≤◌, List, length, get_or, drop}
-use Rattle.std.proofs.lemmas.List.{at_drop_more, at_drop_all}
+-- The post fills of an hour as a sum over the fills of that hour.
+use Rattle.std.proofs.Common.{◌≡◌, ℕ, ◌+◌, Bool, true, false, cond, List, [], ◌∷◌, refl, sym, ap, ◌∙◌, arith, filter, sum_by}
+use Rattle.std.specs.Prelude.{◌==◌}
+use Rattle.std.proofs.lemmas.List.Sums.{sum_by-cons}
 use Rattle.posting.specs.declared.fills.Fill.{Fill}
-use Rattle.posting.specs.Posts.{taken_by, filled_in}
+use Rattle.posting.specs.Posts.{filled_in}
 
-pub filled_step : (hour : ℕ) (fs : List Fill) (i : ℕ) (d : Fill) → i < length fs → filled_in hour (drop i fs) ≡ taken_by hour (get_or fs i d) + filled_in hour (drop (i + 1) fs)
-unfolding filled_in
-filled_step hour fs i d h = at_drop_more (filled_in hour) fs i d h
+abbrev pub volume_of : Fill → ℕ
+volume_of f = f.volume
 
-pub filled_end : (hour : ℕ) (fs : List Fill) (i : ℕ) → length fs ≤ i → filled_in hour (drop i fs) ≡ 0
+abbrev pub within : ℕ → Fill → Bool
+within hour f = f.hour == hour
+
+-- one fill more, whether or not it is of the hour
+one_more : (b : Bool) (f : Fill) (fs : List Fill) → cond b f.volume 0 + sum_by volume_of fs ≡ sum_by volume_of (cond b (f ∷ fs) fs)
+one_more true f fs = sym (sum_by-cons volume_of f fs)
+one_more false f fs = omega arith
+
+pub filled_sum : (hour : ℕ) (fs : List Fill) → filled_in hour fs ≡ sum_by volume_of (filter (within hour) fs)
 unfolding filled_in
-filled_end hour fs i h = at_drop_all (filled_in hour) fs i h
+filled_sum hour [] = refl
+filled_sum hour (f ∷ fs) = ap (λ n. cond (f.hour == hour) f.volume 0 + n) (filled_sum hour fs) ∙ one_more (f.hour == hour) f (filter (within hour) fs)

@@ -24,6 +24,10 @@ no_fill = record { member = 0; hour = 0; side = Buy; volume = 0 }
 abbrev pub listed : ℕ → List Fill → List Fill
 listed posted posts = take posted posts
 
+-- the used places of a whole post list
+abbrev pub posted_answer : List Fill → ℕ → Result (List Fill) Fault
+posted_answer posts posted = cond (length posts == 128) (Ok (listed posted posts)) (Err wrong_length)
+
 -- what a fill took from an hour, from 1
 abbrev pub taken_by : ℕ → Fill → ℕ
 taken_by hour f = cond (f.hour == hour) f.volume 0

@@ -1,7 +1,7 @@
 // A place of the post list: what a post order received.
 use curves::sides::Side;
 
-#[derive(Clone, Copy)]
+#[derive(Clone, Copy, PartialEq, Eq, Debug)]
 pub struct Fill {
     pub member: u32,
     pub hour: u8,

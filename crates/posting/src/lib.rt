@@ -3,6 +3,7 @@
 
 pub mod emptying;
 pub mod fills;
+pub mod posted;
 pub mod posting;
 pub mod ranges;
 mod sums;

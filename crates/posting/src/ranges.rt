@@ -2,16 +2,14 @@
 ghost use Rattle.std.specs.Prelude.{◌≡◌};
 ghost use Rattle.posting.specs.Posts.{bad_post, post_verdict};
 
-use book::ranges::bad_member;
+use book::ranges::{bad_hour, bad_member};
 use calls::posts::PostOrder;
 use faults::fault::{Fault, Refusal};
 
 fn bad_post(order: &PostOrder) -> bool
     ensures { result ≡ bad_post order.now }
 {
-    bad_member(order.member)
-        || (order.hour < 1 || order.hour > 24)
-        || (order.volume < 1 || order.volume > 100_000)
+    bad_member(order.member) || bad_hour(order.hour) || !(1..=100_000).contains(&order.volume)
 }
 
 // The first refusal of the order's own numbers.

@@ -1,11 +1,11 @@
 -- What is read of a cleared day: hours and blocks are counted from 1, rows from 0.
-use Rattle.std.specs.Prelude.{◌≡◌, ℕ, ◌-◌, Bool, false, cond, ◌&&◌, List, length, Some, None, Ok, Err, Option, Result, ◌==◌, slice_index_or}
+use Rattle.std.specs.Prelude.{ℕ, ◌-◌, Bool, cond, ◌&&◌, List, length, Some, None, Ok, Err, Option, Result, ◌==◌, slice_index_or}
 use Rattle.faults.specs.declared.fault.Fault.{Fault}
 use Rattle.faults.specs.declared.fault.Refusal.TheVariants.{NoSuchBlock}
 use Rattle.faults.specs.Answers.{out_of_range, wrong_length}
 use Rattle.faults.specs.Refusals.{fault}
 use Rattle.curves.specs.Ranges.{outside, bad_tick}
-use Rattle.book.specs.HourSets.{bad_hours, hours_at}
+use Rattle.book.specs.HourSets.{hours_at}
 use Rattle.book.specs.Shown.{bad_hour}
 use Rattle.book.specs.Verdicts.{bad_row}
 use Rattle.clearing.specs.declared.marks.Mark.{Mark}
@@ -21,11 +21,6 @@ result_in rs h = cond (length rs == 24) (cond (bad_hour h) (Err out_of_range) (O
 -- the mark of a row, out of 256
 abbrev pub mark_in : List Mark → ℕ → Result Mark Fault
 mark_in ms k = cond (length ms == 256) (cond (bad_row k) (Err out_of_range) (Ok (slice_index_or ms k Kept))) (Err wrong_length)
-
--- a block that the day has lies in some of the 24 hours
-abbrev pub InRange : Option ℕ → Type 0
-InRange (Some hours) = bad_hours hours ≡ false
-InRange None = Unit {0}
 
 -- the price of a block by its hours, if the day has it
 abbrev pub price_over : List HourResult → Option ℕ → Result ℕ Fault

@@ -6,7 +6,7 @@ ghost use Rattle.clearing.specs.Sharing.{hour_shares, HourShared};
 ghost use Rattle.posting.specs.Posts.{listed, filled_in};
 ghost use Rattle.readings.specs.Readings.{right_shares, shares_answer};
 
-use crate::results::hour_of;
+use crate::results::result_in;
 use book::blocks::Blocks;
 use book::rows::Row;
 use clearing::marks::Mark;
@@ -14,20 +14,10 @@ use clearing::results::HourResult;
 use clearing::sharing::hour_shares;
 use faults::fault::{Fault, Refusal};
 use posting::fills::Fill;
-use posting::posting::filled_in;
+use posting::posted::Posted;
 
-// What the first `posted` places of a whole post list took from an hour.
-fn taken_in(posts: &[Fill], posted: usize, hour: u8) -> u64
-    requires { length posts.now ≡ 128 }
-    ensures { result ≡ filled_in hour (listed posted posts.now) }
-{
-    match filled_in(posts, posted, hour) {
-        Ok(filled) => filled,
-        Err(_) => 0,
-    }
-}
-
-// Writes each row's share of an hour, counted from 1, with what the first `posted` places of the post list took from it.
+// Writes each row's share of an hour, counted from 1, with what the first `posted` places of the post list took from it. The
+// tables are lent one by one, as a day keeps them.
 pub fn shares_in(
     rows: &[Row],
     blocks: &Blocks,
@@ -42,18 +32,18 @@ pub fn shares_in(
     ensures each { MatchResult result (λ _. shares.new ≡ hour_shares (places rows.now) (sets_of blocks.now) marks.now (hour - 1) (result_at hours.now (hour - 1)) (filled_in hour (listed posted posts.now))) (λ _. shares.new ≡ shares.old) }
     ensures shared { OnOk result (HourShared (places rows.now) (sets_of blocks.now) marks.now (hour - 1) (result_at hours.now (hour - 1)) (filled_in hour (listed posted posts.now))) }
 {
-    if rows.len() != 256
-        || hours.len() != 24
-        || marks.len() != 256
-        || posts.len() != 128
-        || shares.len() != 256
-    {
+    if rows.len() != 256 || marks.len() != 256 || shares.len() != 256 {
         return Err(Refusal::WrongLength.without_text());
     }
-    if hour < 1 || hour > 24 {
-        return Err(Refusal::OutOfRange(0).without_text());
-    }
-    let result = hour_of(hours, hour);
-    let filled = taken_in(posts, posted, hour);
-    hour_shares(rows, blocks, marks, hour, &result, filled, shares)
+    let used = Posted::new(posts, posted)?;
+    let result = result_in(hours, hour)?;
+    hour_shares(
+        rows,
+        blocks,
+        marks,
+        hour,
+        &result,
+        used.filled_in(hour),
+        shares,
+    )
 }

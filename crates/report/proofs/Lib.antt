@@ -1,2 +1,2 @@
 mod Steps
-mod Checked
+pub mod Checked

@@ -1,7 +1,7 @@
 -- One line more is written, or none is left.
-use Rattle.std.proofs.Common.{◌≡◌, ℕ, ◌+◌, ◌<◌, ◌≤◌, min, List, [], ◌∷◌, ◌++◌, length, get_or, drop, Result, sym, refl, ap, ◌∙◌, inl, inr, append_assoc, append-nil, arith}
+use Rattle.std.proofs.Common.{◌≡◌, ℕ, ◌+◌, ◌<◌, ◌≤◌, List, [], ◌∷◌, ◌++◌, length, get_or, drop, Result, sym, ap, ◌∙◌, inl, inr, append_assoc, append-nil, arith}
 use Rattle.std.proofs.lemmas.List.{at_drop_more, at_drop_all}
-use Rattle.std.proofs.lemmas.Bool.{cases_lt}
+use Rattle.std.specs.Prelude.{◌⊎◌}
 use Rattle.faults.specs.declared.fault.Fault.{Fault}
 use Rattle.report.specs.Lines.{each, answer_line, answer_lines}
 
@@ -20,21 +20,13 @@ pub four : (o o1 o2 o3 o4 a b c d : List ℕ) → o1 ≡ o ++ a → o2 ≡ o1 ++
 four o o1 o2 o3 o4 a b c d p q r s = s ∙ ap (λ l. l ++ d) (r ∙ ap (λ l. l ++ c) (q ∙ ap (λ l. l ++ b) p)) ∙ simp append_assoc
 
 -- the answers, line by line, and at the end of the shorter list
-pub answer_more : (ls : List ℕ) (answers : List (Result ℕ Fault)) (i : ℕ) (d : Result ℕ Fault) (out out' whole : List ℕ) → i < length ls → i < length answers → out ++ answer_lines (drop i ls) (drop i answers) ≡ whole → out' ≡ out ++ answer_line (get_or ls i 0) (get_or answers i d) → out' ++ answer_lines (drop (i + 1) ls) (drop (i + 1) answers) ≡ whole
+pub answer_more : (ls ls' : List ℕ) (answers answers' : List (Result ℕ Fault)) (l : ℕ) (a : Result ℕ Fault) (out out' whole : List ℕ) → ls ≡ l ∷ ls' → answers ≡ a ∷ answers' → out ++ answer_lines ls answers ≡ whole → out' ≡ out ++ answer_line l a → out' ++ answer_lines ls' answers' ≡ whole
 unfolding answer_lines
-answer_more ls answers i d out out' whole h k inv e =
-    step out out' (answer_line (get_or ls i 0) (get_or answers i d)) (answer_lines (drop (i + 1) ls) (drop (i + 1) answers)) whole
-    (sym (at_drop_more (λ l. out ++ answer_lines l (drop i answers)) ls i 0 h ∙ at_drop_more (λ l. out ++ answer_lines (get_or ls i 0 ∷ drop (i + 1) ls) l) answers i d k) ∙ inv) e
+answer_more ls ls' answers answers' l a out out' whole p q inv e =
+    step out out' (answer_line l a) (answer_lines ls' answers') whole (sym (ap (λ x. out ++ answer_lines x answers) p ∙ ap (λ x. out ++ answer_lines (l ∷ ls') x) q) ∙ inv) e
 
-none_answered : (ls : List ℕ) → answer_lines ls [] ≡ []
+pub answers_end : (ls : List ℕ) (answers : List (Result ℕ Fault)) (out whole : List ℕ) → (length ls ≡ 0) ⊎ (length answers ≡ 0) → out ++ answer_lines ls answers ≡ whole → out ≡ whole
 unfolding answer_lines
-none_answered [] = refl
-none_answered (l ∷ ls) = refl
-
-pub answers_end : (ls : List ℕ) (answers : List (Result ℕ Fault)) (i : ℕ) (out whole : List ℕ) → min (length ls) (length answers) ≤ i → out ++ answer_lines (drop i ls) (drop i answers) ≡ whole → out ≡ whole
-unfolding answer_lines
-answers_end ls answers i out whole h inv =
-    sym (append-nil out) ∙ elim (cases_lt i (length ls)) [
-      | inl s ↦ ap (λ l. out ++ l) (sym (none_answered (drop i ls))) ∙ sym (at_drop_all (λ l. out ++ answer_lines (drop i ls) l) answers i (omega arith))
-      | inr s ↦ sym (at_drop_all (λ l. out ++ answer_lines l (drop i answers)) ls i s)
-    ] ∙ inv
+answers_end [] answers out whole spent inv = sym (append-nil out) ∙ inv
+answers_end (l ∷ ls) [] out whole spent inv = sym (append-nil out) ∙ inv
+answers_end (l ∷ ls) (a ∷ answers) out whole spent inv = elim spent [ inl s ↦ absurd (omega arith) | inr s ↦ absurd (omega arith) ]

@@ -17,13 +17,7 @@ fn push_answer(out: &mut String, line: usize, answer: &Result<u32, Fault>) -> Re
 {
     match answer {
         Ok(number) => writeln!(out, "ok {number}"),
-        Err(fault) => push_fault(
-            out,
-            &Fault {
-                refusal: fault.refusal,
-                line,
-            },
-        ),
+        Err(fault) => push_fault(out, &fault.refusal.in_line(line)),
     }
 }
 
@@ -35,8 +29,8 @@ pub fn push_answers(
 ) -> Result<(), AllocError>
     ensures { OnOk result (string_bytes out.new ≡ string_bytes out.old ++ answer_lines lines.now answers.now) }
 {
-    for i in 0..lines.len().min(answers.len()) {
-        push_answer(out, lines[i], &answers[i])?;
+    for (line, answer) in lines.iter().zip(answers) {
+        push_answer(out, *line, answer)?;
     }
     Ok(())
 }

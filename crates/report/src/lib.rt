@@ -6,8 +6,8 @@ mod checks;
 pub mod finals;
 mod lines;
 mod parts;
-mod posts;
 mod shares;
 pub mod stops;
+mod tables;
 #[cfg(test)]
 mod tests;

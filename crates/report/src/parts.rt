@@ -1,75 +1,77 @@
 // The parts of a final day's text: hours, blocks, shares and post fills.
-ghost use Rattle.std.specs.Prelude.{◌≡◌, ◌<◌, ◌++◌, length, string_bytes, OnOk};
+ghost use Rattle.std.specs.Prelude.{◌≡◌, ◌<◌, ◌++◌, string_bytes, OnOk};
 ghost use Rattle.book.specs.Views.{places, sets_of};
-ghost use Rattle.posting.specs.Posts.{listed};
 ghost use Rattle.report.specs.Lines.{each};
-ghost use Rattle.report.specs.Final.{hour_text, block_text, share_text, row_text, post_text};
+ghost use Rattle.report.specs.Final.{hour_text, block_text, share_text, row_text, post_text, final_text};
 
 use crate::lines::{push_block, push_hour, push_post, push_share};
-use book::blocks::Blocks;
-use book::rows::Row;
-use clearing::results::HourResult;
+use crate::tables::FinalDay;
 use posting::fills::Fill;
 use std::alloc::AllocError;
 
-pub(crate) fn push_hours(
-    out: &mut String,
-    hours: &[HourResult],
-    posts: &[Fill],
-    posted: usize,
-) -> Result<(), AllocError>
-    requires { (length hours.now ≡ 24) × (length posts.now ≡ 128) }
-    ensures { OnOk result (string_bytes out.new ≡ string_bytes out.old ++ each (hour_text (listed posted posts.now)) 0 hours.now) }
-{
-    for (i, result) in hours.iter().enumerate() {
-        push_hour(out, i, result, posts, posted)?;
-    }
-    Ok(())
-}
-
-pub(crate) fn push_blocks(
-    out: &mut String,
-    blocks: &Blocks,
-    hours: &[HourResult],
-) -> Result<(), AllocError>
-    requires { length hours.now ≡ 24 }
-    ensures { OnOk result (string_bytes out.new ≡ string_bytes out.old ++ each (block_text hours.now) 0 (sets_of blocks.now)) }
-{
-    for k in 0..blocks.len() {
-        push_block(out, blocks, k, hours)?;
-    }
-    Ok(())
-}
-
+#[tactic(auto, using(crate::proofs::Steps::one_more, crate::proofs::Steps::no_more))]
 fn push_row(out: &mut String, row: usize, shares: &[[u64; 256]; 24]) -> Result<(), AllocError>
     requires { row < 256 }
     ensures { OnOk result (string_bytes out.new ≡ string_bytes out.old ++ each (share_text row) 0 shares.now) }
 {
-    for i in 0..24 {
-        push_share(out, row, i, shares[i][row])?;
+    for (i, hour) in shares.iter().enumerate() {
+        push_share(out, row, i, hour[row])?;
     }
     Ok(())
 }
 
-pub(crate) fn push_rows(
-    out: &mut String,
-    rows: &[Row],
-    shares: &[[u64; 256]; 24],
-) -> Result<(), AllocError>
-    requires { length rows.now ≡ 256 }
-    ensures { OnOk result (string_bytes out.new ≡ string_bytes out.old ++ each (row_text shares.now) 0 (places rows.now)) }
-{
-    for row in 0..rows.len() {
-        push_row(out, row, shares)?;
-    }
-    Ok(())
-}
-
-pub(crate) fn push_posts(out: &mut String, fills: &[Fill]) -> Result<(), AllocError>
+#[tactic(auto, using(crate::proofs::Steps::one_more, crate::proofs::Steps::no_more))]
+fn push_posts(out: &mut String, fills: &[Fill]) -> Result<(), AllocError>
     ensures { OnOk result (string_bytes out.new ≡ string_bytes out.old ++ each post_text 0 fills.now) }
 {
     for fill in fills {
         push_post(out, fill)?;
     }
     Ok(())
+}
+
+impl FinalDay<'_> {
+    #[tactic(auto, using(crate::proofs::Steps::one_more, crate::proofs::Steps::no_more))]
+    fn push_hours(&self, out: &mut String) -> Result<(), AllocError>
+        ensures { OnOk result (string_bytes out.new ≡ string_bytes out.old ++ each (hour_text self.now.posted) 0 self.now.hours.now) }
+    {
+        for (i, result) in self.hours.iter().enumerate() {
+            push_hour(out, i, result, &self.posted)?;
+        }
+        Ok(())
+    }
+
+    #[tactic(auto, using(crate::proofs::Steps::one_more, crate::proofs::Steps::no_more))]
+    fn push_blocks(&self, out: &mut String) -> Result<(), AllocError>
+        ensures { OnOk result (string_bytes out.new ≡ string_bytes out.old ++ each (block_text self.now.hours.now) 0 (sets_of self.now.blocks.now)) }
+    {
+        // By number: that a set is one of the day's is known by its place.
+        for k in 0..self.blocks.len() {
+            push_block(out, self.blocks, k, self.hours)?;
+        }
+        Ok(())
+    }
+
+    // A row is printed whatever stands in its place.
+    #[tactic(auto, using(crate::proofs::Steps::no_more), unfolding(book::specs::Views::places))]
+    fn push_rows(&self, out: &mut String, shares: &[[u64; 256]; 24]) -> Result<(), AllocError>
+        ensures { OnOk result (string_bytes out.new ≡ string_bytes out.old ++ each (row_text shares.now) 0 (places self.now.rows.now)) }
+    {
+        for row in 0..self.rows.len() {
+            push_row(out, row, shares)?;
+        }
+        Ok(())
+    }
+
+    #[tactic(auto, using(crate::proofs::Steps::four), unfolding(crate::specs::Final::final_text))]
+    pub(crate) fn push(&self, out: &mut String) -> Result<(), AllocError>
+        ensures { OnOk result (string_bytes out.new ≡ string_bytes out.old ++ final_text (places self.now.rows.now) (sets_of self.now.blocks.now) self.now.hours.now self.now.marks.now self.now.posted) }
+    {
+        let shares = self.shares();
+        self.push_hours(out)?;
+        self.push_blocks(out)?;
+        self.push_rows(out, &shares)?;
+        push_posts(out, self.posted.fills())?;
+        Ok(())
+    }
 }

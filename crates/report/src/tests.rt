@@ -45,10 +45,7 @@ fn entered(rows: &mut [Row], given: u32, side: Side, tick: u32, volume: u32) -> 
             count: 1,
         }),
     };
-    let ticket = match admit(&draft, 1) {
-        Ok(ticket) => ticket,
-        Err(fault) => return Err(fault),
-    };
+    let ticket = admit(&draft, 1)?;
     enter(rows, given, &ticket)
 }
 
@@ -65,7 +62,7 @@ fn a_refusal_has_the_line_of_its_call(rt: HostRuntime) -> Result<(), Fail> {
 #[test]
 fn a_final_day(rt: HostRuntime) -> Result<(), Fail> {
     let mut out = String::new(rt.alloc());
-    let mut rows = [Row::Empty; 256];
+    let mut rows = [None; 256];
     let mut blocks = Blocks::none();
     let mut hours = [at(5000, 0); 24];
     blocks.push(3)?;
@@ -97,7 +94,7 @@ fn no_price_is_refused(rt: HostRuntime) {
     assert_eq!(rt;
         push_final(
             &mut out,
-            &[Row::Empty; 256],
+            &[None; 256],
             &Blocks::none(),
             &hours,
             &[Mark::Kept; 256],

@@ -1,21 +1,15 @@
 // The program, as a function from its input to its output.
-ghost use Rattle.std.specs.Prelude.{◌≡◌, ◌++◌, length, Ok as Accepted, string_bytes, OnOk};
-ghost use Rattle.text.specs.Format.{got};
-ghost use Rattle.text.specs.Tokens.{ahead};
+ghost use Rattle.std.specs.Prelude.{◌≡◌, ◌++◌, Ok as Accepted, string_bytes, OnOk};
 ghost use Rattle.report.specs.Final.{prices_refused};
 ghost use Rattle.day.specs.Views.{day_of};
-ghost use Rattle.session.specs.Output.{published_of, end_text, output};
+ghost use Rattle.session.specs.Output.{published_of, end_text};
 
-use callfile::scripts::{Script, read_calls};
 use day::days::Day;
 use day::phases::Phase;
-use faults::fault::{Fault, Refusal};
-use history::running::run;
-use report::answers::{push_answers, push_fault};
+use faults::fault::Fault;
+use report::answers::push_fault;
 use report::finals::push_final;
 use report::stops::Stop;
-use std::alloc::{AllocError, Global};
-use text::reader::Reader;
 
 // The most bytes that an input may have.
 pub const LIMIT: usize = 65_536;
@@ -47,10 +41,7 @@ fn push_end(out: &mut String, fault: Option<Fault>, day: &Day) -> Result<(), Sto
     ensures { OnOk result (string_bytes out.new ≡ string_bytes out.old ++ end_text fault (day_of day.now)) }
 {
     match fault {
-        Some(fault) => match push_fault(out, &fault) {
-            Ok(()) => Ok(()),
-            Err(_) => Err(Stop::Memory),
-        },
+        Some(fault) => Ok(push_fault(out, &fault)?),
         None => push_day(out, day),
     }
 }

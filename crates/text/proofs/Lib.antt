@@ -5,5 +5,5 @@ pub mod Tokenings
 pub mod Steps
 pub mod Stages
 pub mod Turns
-pub mod Writings
+pub mod Paging
 pub mod Places

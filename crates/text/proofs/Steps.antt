@@ -1,5 +1,5 @@
 -- What a reader's step says of the format.
-use Rattle.std.proofs.Common.{◌≡◌, ℕ, ◌+◌, Bool, true, false, cond, not, ◌&&◌, eqb, List, [], ◌∷◌, length, drop, IsErrAnd, Ok, Err, Result, sym, refl, ap, ◌∙◌, subst, ⊎_elim, arith}
+use Rattle.std.proofs.Common.{◌≡◌, ℕ, ◌+◌, Bool, true, false, cond, not, ◌&&◌, eqb, List, [], ◌∷◌, length, drop, IsErrAnd, Result, sym, refl, ap, ◌∙◌, subst, ⊎_elim, arith}
 use Rattle.std.proofs.lemmas.List.{drop-drop, drop_at}
 use Rattle.std.proofs.lemmas.Result.{err_from_is_err_and}
 use Rattle.std.proofs.lemmas.Bool.{ne_eqb, cases_eq, or_from, and_from, and_left, and_right, not_from_true, not_from_false}
@@ -10,7 +10,7 @@ use Rattle.text.specs.declared.close.Close.{Close}
 use Rattle.text.specs.declared.close.Close.TheVariants.{Space, Line}
 use Rattle.text.specs.declared.reader.Reader.{Reader}
 use Rattle.text.specs.Closing.{close_byte, closes}
-use Rattle.text.specs.Format.{Outcome, got, refused, onward, Verdict, fit, unfit, outside, Item, parting, run, after, closed, judged, item}
+use Rattle.text.specs.Format.{Outcome, got, refused, onward, Verdict, fit, unfit, outside, Item, parting, run, after, closed, judged, judged_alone, alone, item}
 use Rattle.text.specs.Items.{numeral, number_after, ranged, number, clean, word_of, word}
 use Rattle.text.specs.Tokens.{Seen, a_word, a_number, a_space, a_line, an_end, token_of, size, number_seen, word_seen, answered, ahead, told, filled}
 use Rattle.text.proofs.Laws.{run_after}
@@ -141,36 +141,38 @@ looks_word {A} name all = record { same = λ bs. same bs (token_of bs) (front bs
     letters a_line a e = let z : ◌≡◌ {A = ℕ} 0 1 = cc in absurd (omega arith)
     letters an_end a e = let z : ◌≡◌ {A = ℕ} 0 1 = cc in absurd (omega arith)
 
-answered_fit : {A : Type 0} (v : Verdict A) (p l : ℕ) (a : A) → Ok a ≡ answered v p l → v ≡ fit a
-answered_fit (fit b) p l a e = let k : a ≡ b = cc in ap fit (sym k)
-answered_fit unfit p l a e = let z : ◌≡◌ {A = ℕ} 0 1 = cc in absurd (omega arith)
-answered_fit outside p l a e = let z : ◌≡◌ {A = ℕ} 0 1 = cc in absurd (omega arith)
-
-answered_no : {A : Type 0} (v : Verdict A) (c l p n : ℕ) (bs : List ℕ) (f : Fault) → Err f ≡ answered v p l → refused f ≡ judged v c l p n bs
-answered_no (fit b) c l p n bs f e = let z : ◌≡◌ {A = ℕ} 0 1 = cc in absurd (omega arith)
-answered_no unfit c l p n bs f e = let k : f ≡ fault (Misfit p) l = cc in ap refused k
-answered_no outside c l p n bs f e = let k : f ≡ fault (OutOfRange p) l = cc in ap refused k
-
-closed_value : {A : Type 0} (c : ℕ) (a : A) (l p : ℕ) (bs : List ℕ) → closed c a l p bs ≡ onward (closed c (tt {0}) l p bs) (λ _ q cs. got a q cs)
+pub closed_value : {A : Type 0} (c : ℕ) (a : A) (l p : ℕ) (bs : List ℕ) → closed c a l p bs ≡ onward (closed c (tt {0}) l p bs) (λ _ q cs. got a q cs)
 closed_value c a l p [] = refl
 closed_value c a l p (x ∷ xs) = elim (eqb x c) as (λ t. cond t (got a (p + 1) xs) (refused (fault (Misfit p) l)) ≡ onward (cond t (got (tt {0}) (p + 1) xs) (refused (fault (Misfit p) l))) (λ _ q cs. got a q cs)) [ true ↦ refl | false ↦ refl ]
 
--- a token was taken at s, at the place p, and judged
-module _ {A : Type 0} (I : Item A) (look : Seen → Verdict A) (k : Looks I look) (c l : ℕ) (s : Reader) (token : Seen) (p : ℕ) (seen : token ≡ token_of (ahead s)) (place : p ≡ s.at) where
-  -- it fits, t is the reader past it, and o the reading of what ends it
-  pub item_on : (t : Reader) (a : A) (o : Outcome (Unit {0})) → Ok a ≡ answered (look token) p l → t.at ≡ s.at + size (token_of (ahead s)) → t.input.now ≡ s.input.now → o ≡ closed c (tt {0}) l t.at (ahead t) → onward o (λ _ q cs. got a q cs) ≡ (item I c).read l s.at (ahead s)
-  item_on t a o e at i h =
-      let v : look (token_of (ahead s)) ≡ fit a = ap look (sym seen) ∙ answered_fit (look token) p l a e in
-      let j : I.judge (run (ahead s)) ≡ fit a = sym (k.same (ahead s)) ∙ v in
-      let n = lettered_size (ahead s) (token_of (ahead s)) (front (ahead s)) (k.letters (token_of (ahead s)) a v) in
-      let at' : t.at ≡ s.at + length (run (ahead s)) = at ∙ ap (λ m. s.at + m) n in
-      ap (λ o. onward o (λ _ q cs. got a q cs)) h ∙ sym (rw j ((λ x. closed c a l (sym at' x) (sym (moved s t (length (run (ahead s))) at' i ∙ after_run (ahead s)) x)) ∙ closed_value c a l t.at (ahead t)))
+-- a token was taken at s, at the place p, and judged so; t is the reader past it
+pub alone_told : {A : Type 0} (I : Item A) (look : Seen → Verdict A) → Looks I look → (l : ℕ) (s t : Reader) (token : Seen) (p : ℕ) (r : Result A Fault) → r ≡ answered (look token) p l → token ≡ token_of (ahead s) → p ≡ s.at → t.at ≡ s.at + size (token_of (ahead s)) → t.input.now ≡ s.input.now → told r t ≡ alone I l s.at (ahead s)
+alone_told {A} I look k l s t token p r e seen place at i = ap (λ r. told r t) e ∙ go (look token) (ap look seen) ∙ ap (λ v. judged_alone v l s.at (length (run (ahead s))) (after (ahead s))) (k.same (ahead s))
+  where
+    go : (v : Verdict A) → v ≡ look (token_of (ahead s)) → told (answered v p l) t ≡ judged_alone (look (token_of (ahead s))) l s.at (length (run (ahead s))) (after (ahead s))
+    go (fit a) h =
+        let n = lettered_size (ahead s) (token_of (ahead s)) (front (ahead s)) (k.letters (token_of (ahead s)) a (sym h)) in
+        let at' : t.at ≡ s.at + length (run (ahead s)) = at ∙ ap (λ m. s.at + m) n in
+        (λ x. got a (at' x) ((moved s t (length (run (ahead s))) at' i ∙ after_run (ahead s)) x)) ∙ ap (λ v. judged_alone v l s.at (length (run (ahead s))) (after (ahead s))) h
+    go unfit h = ap (λ p. refused (fault (Misfit p) l)) place ∙ ap (λ v. judged_alone v l s.at (length (run (ahead s))) (after (ahead s))) h
+    go outside h = ap (λ p. refused (fault (OutOfRange p) l)) place ∙ ap (λ v. judged_alone v l s.at (length (run (ahead s))) (after (ahead s))) h
 
-  -- it does not fit
-  pub item_no : (f : Fault) → Err f ≡ answered (look token) p l → refused f ≡ (item I c).read l s.at (ahead s)
-  item_no f e =
-      let v : look token ≡ I.judge (run (ahead s)) = ap look seen ∙ k.same (ahead s) in
-      answered_no (look token) c l p (length (run (ahead s))) (after (ahead s)) f e ∙ (λ x. judged (v x) c l (place x) (length (run (ahead s))) (after (ahead s)))
+-- an item, and then what ends it
+judged_then : {A : Type 0} (v : Verdict A) (c l p n : ℕ) (bs : List ℕ) → onward (judged_alone v l p n bs) (λ a q cs. closed c a l q cs) ≡ judged v c l p n bs
+judged_then (fit a) c l p n bs = refl
+judged_then unfit c l p n bs = refl
+judged_then outside c l p n bs = refl
+
+module _ {A : Type 0} (I : Item A) (c l : ℕ) (s : Reader) where
+  -- the item led from s to t, and o is the reading of what ends it
+  pub item_on : (t : Reader) (a : A) (o : Outcome (Unit {0})) → got a t.at (ahead t) ≡ alone I l s.at (ahead s) → o ≡ closed c (tt {0}) l t.at (ahead t) → onward o (λ _ q cs. got a q cs) ≡ (item I c).read l s.at (ahead s)
+  item_on t a o e h =
+      ap (λ o. onward o (λ _ q cs. got a q cs)) h ∙ sym (closed_value c a l t.at (ahead t)) ∙ ap (λ o. onward o (λ a q cs. closed c a l q cs)) e
+      ∙ judged_then (I.judge (run (ahead s))) c l s.at (length (run (ahead s))) (after (ahead s))
+
+  -- the item does not fit
+  pub item_no : (f : Fault) → refused f ≡ alone I l s.at (ahead s) → refused f ≡ (item I c).read l s.at (ahead s)
+  item_no f e = ap (λ o. onward o (λ a q cs. closed c a l q cs)) e ∙ judged_then (I.judge (run (ahead s))) c l s.at (length (run (ahead s))) (after (ahead s))
 
 -- what the exit of a `?` tells
 pub told_err : {A : Type 0} (r : Result A Fault) (f : Fault) (s : Reader) → IsErrAnd r (λ y. y ≡ f) → told r s ≡ refused f

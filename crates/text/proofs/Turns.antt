@@ -5,7 +5,7 @@ use Rattle.faults.specs.declared.fault.Fault.{Fault}
 use Rattle.faults.specs.Refusals.{fault}
 use Rattle.text.specs.declared.reader.Reader.{Reader}
 use Rattle.text.specs.Format.{Outcome, Format, got, refused, onward, then, dressed}
-use Rattle.text.specs.Staged.{Ruling, granted, denied, ruled, checked, recast, staged_read, many, left, leaving}
+use Rattle.text.specs.Staged.{Ruling, granted, denied, ruled, checked, recast, staged_read, many, leaving}
 use Rattle.text.specs.Tokens.{ahead}
 
 -- F gave a and led from s to t, and the second format's reading from there is o

@@ -66,6 +66,16 @@ judged (fit a) c l p n bs = closed c a l (p + n) bs
 judged unfit c l p n bs = refused (fault (Misfit p) l)
 judged outside c l p n bs = refused (fault (OutOfRange p) l)
 
+-- an item of n bytes at p was judged, and bs follow it, whatever they are
+abbrev pub judged_alone : {A : Type 0} → Verdict A → ℕ → ℕ → ℕ → List ℕ → Outcome A
+judged_alone (fit a) l p n bs = got a (p + n) bs
+judged_alone unfit l p n bs = refused (fault (Misfit p) l)
+judged_alone outside l p n bs = refused (fault (OutOfRange p) l)
+
+-- an item without what ends it
+abbrev pub alone : {A : Type 0} → Item A → ℕ → ℕ → List ℕ → Outcome A
+alone I l p bs = judged_alone (I.judge (run bs)) l p (length (run bs)) (after bs)
+
 -- an item and the byte c after it
 abbrev pub item : {A : Type 0} → Item A → ℕ → Format A
 item I c = record {

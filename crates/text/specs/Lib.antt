@@ -3,5 +3,5 @@ pub mod Items
 pub mod Tokens
 pub mod Closing
 pub mod Staged
-pub mod Writes
+pub mod Pages
 pub mod Places

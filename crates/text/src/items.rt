@@ -1,6 +1,7 @@
-// The items of a line, each with the byte that ends it.
+// The items of a line, each with the byte that ends it. Where the line begins is handed to each call, since a rule that is
+// tested after a line was read still names that line.
 ghost use Rattle.std.specs.Prelude.{◌≡◌, ◌≤◌, IfOk};
-ghost use Rattle.text.specs.Closing.{close_byte, closes};
+ghost use Rattle.text.specs.Closing.{close_byte};
 ghost use Rattle.text.specs.Format.{closed, item};
 ghost use Rattle.text.specs.Items.{number as numberItem};
 ghost use Rattle.text.specs.Tokens.{seen, number_seen, answered, told, ahead};
@@ -10,35 +11,20 @@ use crate::reader::{Placed, Reader, Token};
 use crate::scan::value_of;
 use faults::fault::{Fault, Refusal};
 
-fn ends_item(end: Close, token: Token) -> bool
-    ensures { result ≡ closes end (seen token.entry) }
-{
-    match (end, token) {
-        (Close::Space, Token::Space) => true,
-        (Close::Line, Token::Line) => true,
-        _ => false,
+impl<'a> Placed<'a> {
+    // The number that a token writes, if it is one from `low` to `high`.
+    fn number(self, line: usize, low: u32, high: u32) -> Result<u32, Fault>
+        ensures answer { result ≡ answered (number_seen low high (seen self.entry.token)) self.entry.place line }
+        ensures range { IfOk result (λ n. n ≤ high) }
+    {
+        let Token::Number(digits) = self.token else {
+            return Err(self.misfit(line));
+        };
+        match u32::try_from(value_of(digits)) {
+            Ok(n) if (low..=high).contains(&n) => Ok(n),
+            _ => Err(Refusal::OutOfRange(self.place).in_line(line)),
+        }
     }
-}
-
-// The number that a token writes, if it is one from `low` to `high`.
-fn number_of(first: Placed, line: usize, low: u32, high: u32) -> Result<u32, Fault>
-    ensures answer { result ≡ answered (number_seen low high (seen first.entry.token)) first.entry.place line }
-    ensures range { IfOk result (λ n. n ≤ high) }
-{
-    let Token::Number(digits) = first.token else {
-        return Err(Fault {
-            refusal: Refusal::Misfit(first.place),
-            line,
-        });
-    };
-    let n = value_of(digits);
-    if n < low as u64 || n > high as u64 {
-        return Err(Fault {
-            refusal: Refusal::OutOfRange(first.place),
-            line,
-        });
-    }
-    Ok(n as u32)
 }
 
 impl<'a> Reader<'a> {
@@ -48,13 +34,10 @@ impl<'a> Reader<'a> {
         ensures input { self.new.input.now ≡ self.old.input.now }
     {
         let next = self.next();
-        if ends_item(end, next.token) {
-            return Ok(());
+        match (end, next.token) {
+            (Close::Space, Token::Space) | (Close::Line, Token::Line) => Ok(()),
+            _ => Err(next.misfit(line)),
         }
-        Err(Fault {
-            refusal: Refusal::Misfit(next.place),
-            line,
-        })
     }
 
     // A number from `low` to `high`, and what ends it.
@@ -63,8 +46,7 @@ impl<'a> Reader<'a> {
         ensures input { self.new.input.now ≡ self.old.input.now }
         ensures range { IfOk result (λ n. n ≤ high) }
     {
-        let first = self.next();
-        let n = number_of(first, line, low, high)?;
+        let n = self.next().number(line, low, high)?;
         self.close(line, end)?;
         Ok(n)
     }

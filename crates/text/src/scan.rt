@@ -1,89 +1,82 @@
 // The tokens of the input.
-ghost use Rattle.std.specs.Prelude.{◌≡◌, ◌+◌, ◌<◌, ◌≤◌, min, length, drop};
-ghost use Rattle.std.specs.Str.{all_ascii_digits};
-ghost use Rattle.text.specs.Format.{run};
+ghost use Rattle.std.specs.Prelude.{◌≡◌, ◌+◌, ◌-◌, ◌^◌, ◌≤◌, min, length, position};
+ghost use Rattle.std.specs.List.{list_all};
+ghost use Rattle.std.specs.Char.{is_ascii_digit};
+ghost use Rattle.text.specs.Format.{parting, run};
 ghost use Rattle.text.specs.Items.{numeral, number_after};
 ghost use Rattle.text.specs.Tokens.{seen, token_of, size, ahead};
 
 use crate::reader::{Placed, Reader, Token};
 
-// Where the run of bytes from `at` on ends, at a space, a line end or the end.
-fn run_end(b: &[u8], at: usize) -> usize
-    requires { at ≤ length b.now }
-    ensures within { result ≤ length b.now }
-    ensures end { result ≡ at + length (run (drop at b.now)) }
+// Where the first space or line end stands.
+fn first_end(rest: &[u8]) -> Option<usize>
+    ensures { result ≡ position parting rest.now }
 {
-    let mut i = at;
-    while i < b.len() {
-        if b[i] == b' ' || b[i] == b'\n' {
-            return i;
-        }
-        i += 1;
-    }
-    i
+    rest.iter().position(|c| *c == b' ' || *c == b'\n')
 }
 
-fn all_digits(b: &[u8]) -> bool
-    ensures { result ≡ all_ascii_digits b.now }
+// The bytes before a space, a line end or the end.
+fn item_of(rest: &[u8]) -> &[u8]
+    ensures { result.now ≡ run rest.now }
 {
-    for c in b {
-        if !c.is_ascii_digit() {
-            return false;
-        }
-    }
-    true
+    let end = first_end(rest).unwrap_or(rest.len());
+    &rest[..end]
+}
+
+fn all_digits(item: &[u8]) -> bool
+    ensures { result ≡ list_all is_ascii_digit item.now }
+{
+    item.iter().all(u8::is_ascii_digit)
 }
 
 // Digits, the first of which is 0 only where it stands alone.
-fn is_numeral(b: &[u8]) -> bool
-    ensures { result ≡ numeral b.now }
+fn is_numeral(item: &[u8]) -> bool
+    ensures { result ≡ numeral item.now }
 {
-    if b.len() == 0 {
-        return false;
+    match item {
+        [] => false,
+        [b'0', more @ ..] => more.is_empty(),
+        _ => all_digits(item),
     }
-    all_digits(b) && (b[0] != b'0' || b.len() == 1)
 }
 
-// The number that the digits write, or 2^32 where it is more: any range that 32 bits can hold ends below.
-pub(crate) fn value_of(b: &[u8]) -> u64
-    ensures { result ≡ min 4294967296 (number_after 0 b.now) }
+// The number that the digits write, or the greatest of 64 bits where it is more: any range that 32 bits can hold ends below.
+pub(crate) fn value_of(digits: &[u8]) -> u64
+    ensures { result ≡ min (2 ^ 64 - 1) (number_after 0 digits.now) }
 {
-    let mut n: u64 = 0;
-    for c in b {
-        n = (n * 10 + c.saturating_sub(48) as u64).min(4_294_967_296);
-    }
-    n
+    digits.iter().fold(0u64, |n, c| {
+        n.saturating_mul(10)
+            .saturating_add(u64::from(c.saturating_sub(b'0')))
+    })
 }
 
-// The token that begins at `place`.
-fn token_at<'a>(input: &'a [u8], place: usize) -> Token<'a>
-    ensures token { seen result ≡ token_of (drop place input.now) }
-    ensures within { place ≤ length input.now → place + size (seen result) ≤ length input.now }
+// The token that `rest` begins with.
+#[tactic(auto, using(crate::proofs::Scans::run_within))]
+fn first_token(rest: &[u8]) -> Token
+    ensures token { seen result ≡ token_of rest.now }
+    ensures within { size (seen result) ≤ length rest.now }
 {
-    if place >= input.len() {
-        return Token::End;
+    match rest {
+        [] => Token::End,
+        [b' ', ..] => Token::Space,
+        [b'\n', ..] => Token::Line,
+        _ => {
+            let item = item_of(rest);
+            if is_numeral(item) {
+                Token::Number(item)
+            } else {
+                Token::Word(item)
+            }
+        }
     }
-    if input[place] == b' ' {
-        return Token::Space;
-    }
-    if input[place] == b'\n' {
-        return Token::Line;
-    }
-    let item = &input[place..run_end(input, place)];
-    if is_numeral(item) {
-        return Token::Number(item);
-    }
-    Token::Word(item)
 }
 
 fn length_of(token: Token) -> usize
     ensures { result ≡ size (seen token.entry) }
 {
     match token {
-        Token::Word(w) => w.len(),
-        Token::Number(digits) => digits.len(),
-        Token::Space => 1,
-        Token::Line => 1,
+        Token::Word(bytes) | Token::Number(bytes) => bytes.len(),
+        Token::Space | Token::Line => 1,
         Token::End => 0,
     }
 }
@@ -104,7 +97,7 @@ impl<'a> Reader<'a> {
         ensures input { self.new.input.now ≡ self.old.input.now }
     {
         let place = self.at;
-        let token = token_at(self.input, place);
+        let token = first_token(self.rest());
         self.at = place + length_of(token);
         Placed { place, token }
     }
@@ -113,7 +106,6 @@ impl<'a> Reader<'a> {
     pub fn rest(&self) -> &'a [u8]
         ensures { result.now ≡ ahead self.now }
     {
-        let (_, rest) = self.input.split_at(self.at);
-        rest
+        &self.input[self.at..]
     }
 }

@@ -1,14 +1,11 @@
 // Items at the edges of what fits.
 use crate::close::Close;
+use crate::page::Page;
 use crate::reader::Reader;
-use crate::write::{put_number_item, put_word_item};
 use faults::fault::{Fault, Refusal};
 
 fn misfit(place: usize) -> Result<u32, Fault> {
-    Err(Fault {
-        refusal: Refusal::Misfit(place),
-        line: 0,
-    })
+    Err(Refusal::Misfit(place).in_line(0))
 }
 
 #[test]
@@ -17,10 +14,7 @@ fn thirty_digits_are_out_of_range(rt: HostRuntime) {
     assert_eq!(rt; reader.number(0, 1, 9, Close::Space), Ok(7));
     assert_eq!(rt;
         reader.number(0, 0, 4_294_967_295, Close::Line),
-        Err(Fault {
-            refusal: Refusal::OutOfRange(2),
-            line: 0,
-        })
+        Err(Refusal::OutOfRange(2).in_line(0))
     );
 }
 
@@ -50,10 +44,12 @@ fn the_end_ends_no_item(rt: HostRuntime) {
 
 #[test]
 fn what_is_written_is_read(rt: HostRuntime) {
+    let mut page: Page<12> = Page::new();
+    page.word_item(b"hours", Close::Space);
+    page.number_item(24, Close::Line);
+    assert_eq!(rt; page.text().len(), 9);
     let mut out = [b'.'; 12];
-    let at = put_word_item(&mut out, 0, b"hours", Close::Space);
-    let end = put_number_item(&mut out, at, 24, Close::Line);
-    assert_eq!(rt; end, 9);
+    out[..9].copy_from_slice(page.text());
     let mut reader = Reader::new(&out);
     assert_eq!(rt; reader.keyword(0, b"hours", Close::Space), Ok(()));
     assert_eq!(rt; reader.number(0, 24, 24, Close::Line), Ok(24));

@@ -1,16 +1,16 @@
 // Words, by what they name.
 ghost use Rattle.std.specs.Prelude.{◌≡◌, ℕ, List, [], ◌∷◌};
-ghost use Rattle.std.specs.Str.{bytes_eq};
 ghost use Rattle.text.specs.Closing.{close_byte};
-ghost use Rattle.text.specs.Format.{item};
+ghost use Rattle.text.specs.Format.{alone, item};
 ghost use Rattle.text.specs.Items.{named, verdict, word as word_item, keyword as keywordItem};
 ghost use Rattle.text.specs.Tokens.{seen, word_seen, answered, told, ahead};
 
 use crate::close::Close;
 use crate::reader::{Placed, Reader, Token};
-use faults::fault::{Fault, Refusal};
+use faults::fault::Fault;
 
-// Values that have names, as the sides `buy` and `sell`.
+// Values that have names, as the sides `buy` and `sell`. A word stands in a match each way: a search of all values by their
+// words would take as many lines, and the list of all besides.
 pub trait Named: Copy {
     ghost name: { Self → List ℕ };
 
@@ -25,58 +25,43 @@ pub trait Named: Copy {
         ensures { result.now ≡ name self };
 }
 
-// The value that a token names, if it is a word that does.
-fn named_by<W: Named>(first: Placed, line: usize) -> Result<W, Fault>
-    ensures { result ≡ answered (word_seen W.Named.name W.Named.all (seen first.entry.token)) first.entry.place line }
-{
-    let Token::Word(w) = first.token else {
-        return Err(Fault {
-            refusal: Refusal::Misfit(first.place),
-            line,
-        });
-    };
-    match W::of_word(w) {
-        Some(value) => Ok(value),
-        None => Err(Fault {
-            refusal: Refusal::Misfit(first.place),
-            line,
-        }),
+impl<'a> Placed<'a> {
+    // The value that a token names, if it is a word that does.
+    fn name<W: Named>(self, line: usize) -> Result<W, Fault>
+        ensures { result ≡ answered (word_seen W.Named.name W.Named.all (seen self.entry.token)) self.entry.place line }
+    {
+        match self.token {
+            Token::Word(w) => W::of_word(w).ok_or(self.misfit(line)),
+            _ => Err(self.misfit(line)),
+        }
     }
-}
 
-fn same(a: &[u8], b: &[u8]) -> bool
-    ensures { result ≡ bytes_eq a.now b.now }
-{
-    a == b
-}
-
-// Whether a token is the word that is due.
-fn is_keyword(first: Placed, line: usize, word: &[u8]) -> Result<(), Fault>
-    ensures { result ≡ answered (word_seen (λ _. word.now) (tt ∷ []) (seen first.entry.token)) first.entry.place line }
-{
-    let Token::Word(w) = first.token else {
-        return Err(Fault {
-            refusal: Refusal::Misfit(first.place),
-            line,
-        });
-    };
-    if same(word, w) {
-        return Ok(());
+    // Whether a token is the word that is due.
+    fn keyword(self, line: usize, word: &[u8]) -> Result<(), Fault>
+        ensures { result ≡ answered (word_seen (λ _. word.now) (tt ∷ []) (seen self.entry.token)) self.entry.place line }
+    {
+        match self.token {
+            Token::Word(w) if word == w => Ok(()),
+            _ => Err(self.misfit(line)),
+        }
     }
-    Err(Fault {
-        refusal: Refusal::Misfit(first.place),
-        line,
-    })
 }
 
 impl<'a> Reader<'a> {
+    // The value that the next word names, without what ends it.
+    pub fn name<W: Named>(&mut self, line: usize) -> Result<W, Fault>
+        ensures told { told result self.new ≡ alone (word_item W.Named.name W.Named.all) line self.old.at (ahead self.old) }
+        ensures input { self.new.input.now ≡ self.old.input.now }
+    {
+        self.next().name::<W>(line)
+    }
+
     // A word that names a value, and what ends it.
     pub fn word<W: Named>(&mut self, line: usize, end: Close) -> Result<W, Fault>
         ensures told { told result self.new ≡ (item (word_item W.Named.name W.Named.all) (close_byte end)).read line self.old.at (ahead self.old) }
         ensures input { self.new.input.now ≡ self.old.input.now }
     {
-        let first = self.next();
-        let value = named_by::<W>(first, line)?;
+        let value = self.name::<W>(line)?;
         self.close(line, end)?;
         Ok(value)
     }
@@ -86,8 +71,7 @@ impl<'a> Reader<'a> {
         ensures told { told result self.new ≡ (item (keywordItem word.now) (close_byte end)).read line self.old.at (ahead self.old) }
         ensures input { self.new.input.now ≡ self.old.input.now }
     {
-        let first = self.next();
-        is_keyword(first, line, word)?;
+        self.next().keyword(line, word)?;
         self.close(line, end)
     }
 }

@@ -1,11 +1,10 @@
-use Rattle.std.proofs.Common.{cond, ◌∙◌, arith}
-use Rattle.allocation.proofs.Summing.{left_more, left_all}
+use Rattle.std.proofs.Common.{rules, ◌≡◌, ◌-◌, cond, fold, ◌∙◌}
+use Rattle.std.proofs.iter.runs.Made.{chains}
+use Rattle.allocation.proofs.Summing.{left_all}
 use Rattle.allocation.proofs.shares.left_for.Goals as goal
 
-pub loop-other-preserved : goal.loop-other-preserved
-loop-other-preserved g c =
-    let k = g.C.Claim in
-    (omega arith, omega (arith, c.left_past-left.ensures, left_more (λ y. cond (k.before y c.args.claim.now) (k.asks y) 0) c.args.volume c.args.claims.now c.loop-other.other-index _ c.loop-other-test.true c.other-item.is))
-
 pub returns : goal.returns
-returns g c = c.loop-other.invariant.1 ∙ left_all _ _ _ _ c.loop-other-test.false
+returns g c =
+    let k = g.C.Claim in
+    let all : c.fold.result ≡ fold (λ left y. left - cond (k.before y c.args.claim.now) (k.asks y) 0) c.args.volume c.args.claims.now = search (rules, chains) in
+    all ∙ left_all (λ y. cond (k.before y c.args.claim.now) (k.asks y) 0) c.args.volume c.args.claims.now

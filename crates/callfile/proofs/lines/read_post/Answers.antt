@@ -40,10 +40,10 @@ returns-in_err-hour c =
     let s0 = c.args.reader.now in
     let s1 = c.number.new.self in
     record {
-      told = told_err c.from_residual-in_err-hour.result c.in_err-hour.field-0.0 c.read_hour.new.reader c.from_residual-in_err-hour.ensures.1 ∙ dressed_told as_post post_parts post_items l s0 _
+      told = told_err c.from_residual-in_err-hour.result c.in_err-hour.field-0.0 c.number-2.new.self c.from_residual-in_err-hour.ensures.1 ∙ dressed_told as_post post_parts post_items l s0 _
           (then_on (item (number 1 999) 32) g1 l s0 s1 c.in_ok-member.member _ c.in_ok-member.ensures.told
           (then_no (item (number 1 24) 32) g2 l s1 _ c.in_err-hour.ensures.told));
-      input = c.read_hour.ensures.input ∙ c.number.ensures.input;
+      input = c.number-2.ensures.input ∙ c.number.ensures.input;
     }
 
 pub returns-in_err-word : goal.returns-in_err-word
@@ -51,13 +51,13 @@ returns-in_err-word c =
     let l = c.args.line in
     let s0 = c.args.reader.now in
     let s1 = c.number.new.self in
-    let s2 = c.read_hour.new.reader in
+    let s2 = c.number-2.new.self in
     record {
       told = told_err c.from_residual-in_err-word.result c.in_err-word.field-0.0 c.word.new.self c.from_residual-in_err-word.ensures.1 ∙ dressed_told as_post post_parts post_items l s0 _
           (then_on (item (number 1 999) 32) g1 l s0 s1 c.in_ok-member.member _ c.in_ok-member.ensures.told
           (then_on (item (number 1 24) 32) g2 l s1 s2 c.in_ok-hour.hour _ c.in_ok-hour.ensures.told
           (then_no side_text g3 l s2 _ (side_told l s2 _ c.in_err-word.ensures.told))));
-      input = c.word.ensures.input ∙ c.read_hour.ensures.input ∙ c.number.ensures.input;
+      input = c.word.ensures.input ∙ c.number-2.ensures.input ∙ c.number.ensures.input;
     }
 
 pub returns-in_err-volume : goal.returns-in_err-volume
@@ -65,15 +65,15 @@ returns-in_err-volume c =
     let l = c.args.line in
     let s0 = c.args.reader.now in
     let s1 = c.number.new.self in
-    let s2 = c.read_hour.new.reader in
+    let s2 = c.number-2.new.self in
     let s3 = c.word.new.self in
     record {
-      told = told_err c.from_residual-in_err-volume.result c.in_err-volume.field-0.0 c.number-2.new.self c.from_residual-in_err-volume.ensures.1 ∙ dressed_told as_post post_parts post_items l s0 _
+      told = told_err c.from_residual-in_err-volume.result c.in_err-volume.field-0.0 c.number-3.new.self c.from_residual-in_err-volume.ensures.1 ∙ dressed_told as_post post_parts post_items l s0 _
           (then_on (item (number 1 999) 32) g1 l s0 s1 c.in_ok-member.member _ c.in_ok-member.ensures.told
           (then_on (item (number 1 24) 32) g2 l s1 s2 c.in_ok-hour.hour _ c.in_ok-hour.ensures.told
           (then_on side_text g3 l s2 s3 c.in_ok-word.word.side _ (side_told l s2 _ c.in_ok-word.ensures.told)
           (then_no (item (number 1 100000) 32) g4 l s3 _ c.in_err-volume.ensures.told))));
-      input = c.number-2.ensures.input ∙ c.word.ensures.input ∙ c.read_hour.ensures.input ∙ c.number.ensures.input;
+      input = c.number-3.ensures.input ∙ c.word.ensures.input ∙ c.number-2.ensures.input ∙ c.number.ensures.input;
     }
 
 pub returns-in_err-size : goal.returns-in_err-size
@@ -81,9 +81,9 @@ returns-in_err-size c =
     let l = c.args.line in
     let s0 = c.args.reader.now in
     let s1 = c.number.new.self in
-    let s2 = c.read_hour.new.reader in
+    let s2 = c.number-2.new.self in
     let s3 = c.word.new.self in
-    let s4 = c.number-2.new.self in
+    let s4 = c.number-3.new.self in
     record {
       told = told_err c.from_residual-in_err-size.result c.in_err-size.field-0.0 c.word-2.new.self c.from_residual-in_err-size.ensures.1 ∙ dressed_told as_post post_parts post_items l s0 _
           (then_on (item (number 1 999) 32) g1 l s0 s1 c.in_ok-member.member _ c.in_ok-member.ensures.told
@@ -91,7 +91,7 @@ returns-in_err-size c =
           (then_on side_text g3 l s2 s3 c.in_ok-word.word.side _ (side_told l s2 _ c.in_ok-word.ensures.told)
           (then_on (item (number 1 100000) 32) g4 l s3 s4 c.in_ok-volume.volume _ c.in_ok-volume.ensures.told
           (dressed_told (λ w. w.portion) word_of (item portion_word 10) l s4 _ c.in_err-size.ensures.told)))));
-      input = c.word-2.ensures.input ∙ c.number-2.ensures.input ∙ c.word.ensures.input ∙ c.read_hour.ensures.input ∙ c.number.ensures.input;
+      input = c.word-2.ensures.input ∙ c.number-3.ensures.input ∙ c.word.ensures.input ∙ c.number-2.ensures.input ∙ c.number.ensures.input;
     }
 
 pub returns : goal.returns
@@ -99,9 +99,9 @@ returns c =
     let l = c.args.line in
     let s0 = c.args.reader.now in
     let s1 = c.number.new.self in
-    let s2 = c.read_hour.new.reader in
+    let s2 = c.number-2.new.self in
     let s3 = c.word.new.self in
-    let s4 = c.number-2.new.self in
+    let s4 = c.number-3.new.self in
     record {
       told = dressed_told as_post post_parts post_items l s0 _
           (then_on (item (number 1 999) 32) g1 l s0 s1 c.in_ok-member.member _ c.in_ok-member.ensures.told
@@ -109,5 +109,5 @@ returns c =
           (then_on side_text g3 l s2 s3 c.in_ok-word.word.side _ (side_told l s2 _ c.in_ok-word.ensures.told)
           (then_on (item (number 1 100000) 32) g4 l s3 s4 c.in_ok-volume.volume _ c.in_ok-volume.ensures.told
           (dressed_told (λ w. w.portion) word_of (item portion_word 10) l s4 _ c.in_ok-size.ensures.told)))));
-      input = c.word-2.ensures.input ∙ c.number-2.ensures.input ∙ c.word.ensures.input ∙ c.read_hour.ensures.input ∙ c.number.ensures.input;
+      input = c.word-2.ensures.input ∙ c.number-3.ensures.input ∙ c.word.ensures.input ∙ c.number-2.ensures.input ∙ c.number.ensures.input;
     }

@@ -4,5 +4,5 @@ use Rattle.callfile.specs.Scripts.{script_of}
 use Rattle.callfile.proofs.Sofar.{Sofar}
 use Rattle.callfile.proofs.scripts.read_lines.Given as goal
 
-abbrev pub invariant-loop-i : goal.invariant-loop-i
-invariant-loop-i l = Sofar (vec_items l.lines) (vec_items l.calls) (script_of (l.n - l.i) l.reader.at (ahead l.reader)) (script_of l.n l.initial.reader.at (ahead l.initial.reader))
+abbrev pub invariant-loop : goal.invariant-loop
+invariant-loop l = Sofar (vec_items l.lines) (vec_items l.calls) (script_of (l.n - l.counter) l.reader.at (ahead l.reader)) (script_of l.n l.initial.reader.at (ahead l.initial.reader))

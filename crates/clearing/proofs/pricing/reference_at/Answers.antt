@@ -8,9 +8,9 @@ pub returns : goal.returns
 unfolding ticks
 returns c =
     let refs = c.args.references.now in
-    let tick : Tick = get_or refs c.args.hour c.index-references-hour.result in
+    let tick : Tick = get_or refs c.args.hour.index c.index-references-hour.result in
     record {
-      is = c.get.ensures ∙ sym (get_or-map (λ (t : Tick). t.value) refs c.args.hour c.index-references-hour.result 0 (omega arith));
+      is = c.get.ensures ∙ sym (get_or-map (λ (t : Tick). t.value) refs c.args.hour.index c.index-references-hour.result 0 (omega arith));
       low = omega (arith, c.get.ensures, tick.low);
       high = omega (arith, c.get.ensures, tick.high);
     }

@@ -1,35 +1,18 @@
-use Rattle.std.proofs.Common.{length, ap, ◌∙◌, rules}
-use Rattle.book.specs.Drafted.{asked_of, draft_verdict}
-use Rattle.book.specs.Entering.{change_refusals, change_answer}
+use Rattle.std.proofs.Common.{length, sym, ap, ◌∙◌}
+use Rattle.book.specs.Drafted.{too_many, asked_of, draft_verdict}
+use Rattle.book.specs.Entering.{change_answer}
 use Rattle.book.specs.Views.{ticket_of, places}
+use Rattle.calls.specs.Moves.{changing}
 use Rattle.day.specs.Answers.{first}
 use Rattle.day.specs.Views.{lent_to}
-use Rattle.day.proofs.Drafting.{change_judged, drafted, undrafted}
+use Rattle.day.proofs.Drafting.{draft_granted}
 use Rattle.day.proofs.entering.change_draft.Goals as goal
 
-pub returns-in-Ok : goal.returns-in-Ok
-returns-in-Ok c =
-    let ps = places c.args.rows.now in
-    let dr = c.args.draft.now in
-    let given = c.args.given in
+pub returns-clause-gives : goal.returns-clause-gives
+unfolding draft_verdict
+returns-clause-gives c =
     let n = length c.args.rows.now in
-    let both = drafted n given ps (draft_verdict c.args.blocks dr) (change_refusals ps given) c.if-rows-ne256.false (asked_of dr) (ticket_of c.in-Ok.ticket) c.change.result (places c.change.new.rows)
-    c.in-Ok.ensures c.change.ensures.gives c.change.ensures.leaves in
-    record {
-      gives = both.0 ∙ ap (λ j. lent_to n (first j (change_answer ps given (asked_of dr)))) (change_judged c.args.blocks dr);
-      leaves = both.1;
-      kept = c.change.ensures.kept;
-    }
-
-pub returns-in-Err : goal.returns-in-Err
-returns-in-Err c =
-    let ps = places c.args.rows.now in
-    let dr = c.args.draft.now in
-    let given = c.args.given in
-    let n = length c.args.rows.now in
-    record {
-      gives = undrafted n given ps (draft_verdict c.args.blocks dr) (change_refusals ps given) c.if-rows-ne256.false (asked_of dr) c.in-Err.fault (change_answer ps given (asked_of dr)) c.in-Err.ensures
-          ∙ ap (λ j. lent_to n (first j (change_answer ps given (asked_of dr)))) (change_judged c.args.blocks dr);
-      leaves = search rules;
-      kept = search rules;
-    }
+    let answer = change_answer (places c.args.rows.now) c.args.given in
+    let asked = asked_of c.args.draft.now in
+    let is = draft_granted (too_many c.args.draft.now.terms) c.args.blocks (changing asked) asked (ticket_of c.in_ok-ticket.ticket) c.in_ok-ticket.ensures in
+    c.change.ensures.gives ∙ ap (λ a. lent_to n (answer a)) is.1 ∙ sym (ap (λ j. lent_to n (first j (answer asked))) is.0)

@@ -6,8 +6,8 @@ use Rattle.text.proofs.Turns.{before}
 use Rattle.dayfile.specs.Day.{set_line}
 use Rattle.dayfile.proofs.sections.read_sets.Given as goal
 
-abbrev pub invariant-loop-i : goal.invariant-loop-i
-invariant-loop-i l =
-    (before (sets_of l.blocks) ((many set_line (l.n - l.i)).read 0 l.reader.at (ahead l.reader)) ≡ (many set_line l.n).read 0 l.initial.reader.at (ahead l.initial.reader))
-    × (length (sets_of l.blocks) ≡ l.i)
+abbrev pub invariant-loop : goal.invariant-loop
+invariant-loop l =
+    (before (sets_of l.blocks) ((many set_line (l.n - l.counter)).read 0 l.reader.at (ahead l.reader)) ≡ (many set_line l.n).read 0 l.initial.reader.at (ahead l.initial.reader))
+    × (length (sets_of l.blocks) ≡ l.counter)
     × (l.reader.input.now ≡ l.initial.reader.input.now)

@@ -19,8 +19,8 @@ loop-i-init c h t =
 pub loop-i-preserved : goal.loop-i-preserved
 loop-i-preserved c h t =
     let d = c.args.day.now in
-    play_more (day_of d).references (day_of d).sets h c.args.calls.now c.loop-i.answers c.loop-i.i zero c.loop-i.day c.step.new.day c.step.new.place
-    c.loop-i-test.true (c.loop-i.auto.answers ∙ c.requires) t.hours c.step.ensures.gives c.step.ensures.leaves (c.loop-i.invariant h t)
+    play_more (day_of d).references (day_of d).sets h c.args.calls.now c.loop-i.answers c.loop-i.i zero c.loop-i.day c.call.new.self c.call.result
+    c.loop-i-test.true (c.loop-i.auto.answers ∙ c.requires) t.hours c.call.ensures.gives c.call.ensures.leaves (c.loop-i.invariant h t)
 
 pub returns : goal.returns
 returns c h t =

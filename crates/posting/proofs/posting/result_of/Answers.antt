@@ -1,6 +1,0 @@
-use Rattle.std.proofs.Common.{◌-◌, arith}
-use Rattle.std.proofs.lemmas.List.{get_or_default}
-use Rattle.posting.proofs.posting.result_of.Goals as goal
-
-pub returns : goal.returns
-returns c = get_or_default c.args.hours.now (c.args.hour - 1) _ _ (omega arith)
