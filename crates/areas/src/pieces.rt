@@ -1,6 +1,6 @@
 // What an order shows from one of its pairs to the next, and beyond them, on one side of the price. Side and price go with
 // each pair as plain parameters: a struct of the two would be taken apart in every function.
-ghost use Rattle.std.specs.Prelude.{◌≡◌, ◌*◌, ◌^◌, ◌<◌, ◌≤◌};
+ghost use Rattle.std.specs.Prelude.{◌≡◌, ◌*◌, ◌^◌, ◌<◌, ◌≤◌, drop};
 ghost use Rattle.areas.specs.Runs.{piece_ticks, piece_sum, row_sum, flat_ticks};
 ghost use Rattle.curves.specs.Views.{point};
 
@@ -36,6 +36,13 @@ fn piece<R: Run>(side: Side, p: Pair, q: Pair, price: Tick) -> u64
     ticks.showing(p.volume.min(q.volume)) + R::climb(line, ticks)
 }
 
+// The pairs to which the pieces run. A slice: `skip` would count at each of them.
+fn after_first(pairs: &[Pair]) -> &[Pair]
+    ensures { result.now ≡ drop 1 pairs.now }
+{
+    &pairs[pairs.len().min(1)..]
+}
+
 // The sum over all pieces.
 pub(crate) fn pieces<R: Run>(side: Side, pairs: &[Pair], price: Tick) -> u64
     requires { row_sum side R.way pairs.now price.value < 2 ^ 64 }
@@ -43,7 +50,7 @@ pub(crate) fn pieces<R: Run>(side: Side, pairs: &[Pair], price: Tick) -> u64
 {
     pairs
         .iter()
-        .zip(pairs.iter().skip(1))
+        .zip(after_first(pairs))
         .map(|(p, q)| piece::<R>(side, *p, *q, price))
         .sum()
 }

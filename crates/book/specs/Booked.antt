@@ -1,6 +1,7 @@
 -- The laws of one side of an hour in the order table.
-use Rattle.std.specs.Prelude.{◌≡◌, ℕ, ◌+◌, ◌*◌, ◌≤◌, Bool, true, false, cond, ◌&&◌, List, [], ◌∷◌, length, ◌==◌, sum_by, Option, None, Some}
-use Rattle.std.proofs.Common.{refl, arith}
+use Rattle.std.specs.Prelude.{◌≡◌, ℕ, ◌+◌, ◌*◌, ◌<◌, ◌≤◌, Bool, true, false, cond, ◌&&◌, List, [], ◌∷◌, length, drop, ◌==◌, sum_by, Option, None, Some, slice_index_or}
+use Rattle.std.proofs.Common.{refl, ap, sym, ◌∙◌, arith}
+use Rattle.std.proofs.lemmas.List.{at_drop_more, at_drop_all}
 use Rattle.std.proofs.lemmas.List.Sums.{sum_by-cons}
 use Rattle.curves.specs.declared.sides.Side.{Side}
 use Rattle.curves.specs.declared.sides.Side.TheVariants.{Buy, Sell}
@@ -46,3 +47,15 @@ pub book_sum : (hour : ℕ) (side : Side) (rows : List (Option Entry)) (t : ℕ)
 unfolding book_shows places
 book_sum hour side [] t = refl
 book_sum hour side (r ∷ rs) t = omega (arith, book_sum hour side rs t, sum_by-cons (λ (x : Option Entry). place_shows hour side (place_of x) t) r rs)
+
+-- one row of a walk
+pub book_step : (hour : ℕ) (side : Side) (rows : List (Option Entry)) (i t : ℕ) (r : Option Entry) → i < length rows → r ≡ slice_index_or rows i r →
+    book_shows hour side (places (drop i rows)) t ≡ place_shows hour side (place_of r) t + book_shows hour side (places (drop (i + 1) rows)) t
+unfolding book_shows places
+book_step hour side rows i t r h e =
+    at_drop_more (λ (xs : List (Option Entry)). book_shows hour side (places xs) t) rows i r h
+    ∙ ap (λ (q : Option Entry). place_shows hour side (place_of q) t + book_shows hour side (places (drop (i + 1) rows)) t) (sym e)
+
+pub book_end : (hour : ℕ) (side : Side) (rows : List (Option Entry)) (i t : ℕ) → length rows ≤ i → book_shows hour side (places (drop i rows)) t ≡ 0
+unfolding book_shows places
+book_end hour side rows i t h = at_drop_all (λ (xs : List (Option Entry)). book_shows hour side (places xs) t) rows i h

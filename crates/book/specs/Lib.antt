@@ -7,4 +7,5 @@ pub mod Shown
 pub mod HourSets
 pub mod Drafted
 pub mod Views
+pub mod Short
 pub mod Booked

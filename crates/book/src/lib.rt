@@ -9,6 +9,7 @@ pub mod entering;
 pub mod entries;
 pub mod hour_sets;
 pub mod hours;
+pub mod lents;
 pub mod ranges;
 pub mod rows;
 pub mod sides;

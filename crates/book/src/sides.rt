@@ -2,17 +2,27 @@
 ghost use Rattle.std.specs.Prelude.{◌≡◌, ℕ, ◌≤◌, length, IfOk};
 ghost use Rattle.faults.specs.Answers.{viewed};
 ghost use Rattle.curves.specs.Steps.{open_end};
+ghost use Rattle.book.specs.Short.{Short};
 ghost use Rattle.book.specs.Shown.{place_shows, book_shows, lent_answer};
 ghost use Rattle.book.specs.Views.{place_of, places};
 ghost use Rattle.book.specs.Booked.{book_turned, book_few};
 ghost use Rattle.std.proofs.Common.{arith};
 ghost use Rattle.curves.specs.Offered.{open_bounded};
 
+use crate::lents::Lent;
 use crate::rows::Row;
 use curves::curves::Curve;
 use curves::sides::Side;
 use curves::ticks::Tick;
-use faults::fault::{Fault, Refusal};
+use faults::fault::Fault;
+
+// What lends the rows of a table.
+pub trait Rows {
+    ghost listed: { Self → Short };
+
+    fn rows(&self) -> &[Row]
+        ensures { result.now ≡ (listed self.now).rows };
+}
 
 // The rows of a lent table, at most 256, as one side of an hour reads them.
 #[derive(Clone, Copy)]
@@ -29,10 +39,20 @@ impl<'a> TableSide<'a> {
         ensures lends { viewed (λ s. s.rows.now) result ≡ lent_answer rows.now }
         ensures asks { IfOk result (λ s. (s.hour ≡ hour) × (s.side ≡ side)) }
     {
-        if rows.len() > 256 {
-            return Err(Refusal::WrongLength.without_text());
-        }
+        let Lent { rows } = Lent::new(rows)?;
         Ok(TableSide { rows, hour, side })
+    }
+
+    // Over anything that lends rows, and so is never refused.
+    pub fn over<T: Rows>(table: &'a T, hour: u8, side: Side) -> TableSide<'a>
+        ensures lends { result.rows.now ≡ (T.Rows.listed table.now).rows }
+        ensures asks { (result.hour ≡ hour) × (result.side ≡ side) }
+    {
+        TableSide {
+            rows: table.rows(),
+            hour,
+            side,
+        }
     }
 }
 

@@ -11,7 +11,6 @@ use book::rows::Row;
 use curves::curves::Curve;
 use curves::orders::Order;
 use curves::pairs::Pair;
-use std::array;
 
 // The volume and the limit of one pair.
 fn single_terms(pairs: &[Pair]) -> Option<(u32, Option<u32>)>
@@ -49,11 +48,14 @@ fn block_of(row: &Row, products: &Blocks) -> Option<Block>
     })
 }
 
-// A place for each row: its block order, if it holds one.
-pub(crate) fn collect(rows: &[Row], products: &Blocks) -> [Option<Block>; 256]
+// Writes each row's block order, if it holds one, at its place. The blocks are written where their table lies: one that is
+// handed up by value is copied on its way.
+pub(crate) fn collect(rows: &[Row], products: &Blocks, blocks: &mut [Option<Block>; 256])
     requires { length rows.now ≡ 256 }
-    ensures is { result ≡ blocks_of (sets_of products.now) (places rows.now) }
-    ensures small { small_blocks result ≡ true }
+    ensures is { blocks.new ≡ blocks_of (sets_of products.now) (places rows.now) }
+    ensures small { small_blocks blocks.new ≡ true }
 {
-    array::from_fn(|i| block_of(&rows[i], products))
+    for (i, block) in blocks.iter_mut().enumerate() {
+        *block = block_of(&rows[i], products);
+    }
 }

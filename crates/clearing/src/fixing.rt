@@ -29,7 +29,8 @@ fn clear(
     ensures cleared { BlocksCleared (places rows.now) (sets_of blocks.now) (ticks references.now) result hours.new marks.new }
     ensures priced { HoursPriced (places rows.now) (sets_of blocks.now) (ticks references.now) result hours.new marks.new }
 {
-    let orders = collect(rows, blocks);
+    let mut orders = [None; 256];
+    collect(rows, blocks, &mut orders);
     let mut standing = [true; 256];
     let day = Day {
         rows,

@@ -79,32 +79,48 @@ struct Tables<'r, 'p, 'm> {
 }
 
 impl<'r, 'p, 'm> Tables<'r, 'p, 'm> {
-    fn block_claims(&self, blocks: &[Option<Block>; 256], side: Side) -> [Option<BlockClaim>; 256]
-        ensures { result ≡ tabled (λ k. block_claim (is_kept (slice_index_or self.now.marks.now k Kept)) side self.now.hour.index (slice_index_or blocks.now k None)) 256 }
+    // The claims are written where their table lies: one that is handed up by value is copied on its way.
+    fn block_claims(
+        &self,
+        blocks: &[Option<Block>; 256],
+        side: Side,
+        claims: &mut [Option<BlockClaim>; 256],
+    )
+        ensures { claims.new ≡ tabled (λ k. block_claim (is_kept (slice_index_or self.now.marks.now k Kept)) side self.now.hour.index (slice_index_or blocks.now k None)) 256 }
     {
-        array::from_fn(|i| block_claim(&blocks[i], self.marks[i], side, self.hour))
+        for (i, claim) in claims.iter_mut().enumerate() {
+            *claim = block_claim(&blocks[i], self.marks[i], side, self.hour);
+        }
     }
 
-    fn market_claims(&self, side: Side) -> [Option<MarketClaim>; 256]
-        ensures { result ≡ map (market_of (self.now.hour.index + 1) side) (places self.now.rows.now) }
+    fn market_claims(&self, side: Side, claims: &mut [Option<MarketClaim>; 256])
+        ensures { claims.new ≡ map (market_of (self.now.hour.index + 1) side) (places self.now.rows.now) }
     {
-        array::from_fn(|i| market_claim(&self.rows[i], self.hour, side))
+        for (i, claim) in claims.iter_mut().enumerate() {
+            *claim = market_claim(&self.rows[i], self.hour, side);
+        }
     }
 
-    fn limit_claims(&self, side: Side) -> [Option<LimitClaim>; 256]
-        ensures { result ≡ map (limit_of (self.now.hour.index + 1) side self.now.price.value) (places self.now.rows.now) }
+    fn limit_claims(&self, side: Side, claims: &mut [Option<LimitClaim>; 256])
+        ensures { claims.new ≡ map (limit_of (self.now.hour.index + 1) side self.now.price.value) (places self.now.rows.now) }
     {
-        array::from_fn(|i| limit_claim(&self.rows[i], self.hour, side, self.price))
+        for (i, claim) in claims.iter_mut().enumerate() {
+            *claim = limit_claim(&self.rows[i], self.hour, side, self.price);
+        }
     }
 
     // The shares of the rows on one side.
     fn shares(&self, side: Side, volume: u64) -> [u64; 256]
         ensures { result ≡ side_shares (places self.now.rows.now) (sets_of self.now.products.now) self.now.marks.now self.now.hour.index self.now.price.value side volume }
     {
-        let placed = collect(self.rows, self.products);
-        let blocks = self.block_claims(&placed, side);
-        let markets = self.market_claims(side);
-        let limits = self.limit_claims(side);
+        let mut placed = [None; 256];
+        let mut blocks = [None; 256];
+        let mut markets = [None; 256];
+        let mut limits = [None; 256];
+        collect(self.rows, self.products, &mut placed);
+        self.block_claims(&placed, side, &mut blocks);
+        self.market_claims(side, &mut markets);
+        self.limit_claims(side, &mut limits);
         serve_kinds(volume, &blocks, &markets, &limits)
     }
 

@@ -1,9 +1,12 @@
 -- The laws of a linear order.
-use Rattle.std.specs.Prelude.{◌≡◌, ℕ, ◌<◌, ◌≤◌, true, ◌&&◌, ◌⊎◌, List, [], ◌∷◌, nat_le, nat_lt, refl}
-use Rattle.std.proofs.Common.{ap, ◌∙◌, inl, inr, arith}
+use Rattle.std.specs.Prelude.{◌≡◌, ℕ, zero, suc, ◌+◌, ◌-◌, ◌<◌, ◌≤◌, true, cond, ◌&&◌, ◌⊎◌, List, [], ◌∷◌, length, drop, nat_le, nat_lt, slice_index_or, refl}
+use Rattle.std.proofs.Common.{ap, sym, ◌∙◌, inl, inr, arith}
+use Rattle.std.proofs.lemmas.List.{drop_more}
 use Rattle.std.proofs.lemmas.Bool.{and_parts, and_from, and_left, and_right, ltb-true, lt-ltb, le-ltb, le-leb, lt-leb, cond-true, cond-false, cases_lt}
 use Rattle.curves.specs.declared.sides.Side.{Side}
 use Rattle.curves.specs.declared.sides.Side.TheVariants.{Buy, Sell}
+use Rattle.curves.specs.declared.pairs.Pair.{Pair}
+use Rattle.curves.specs.Views.{point, points}
 use Rattle.curves.specs.Points.{Point}
 use Rattle.curves.specs.Tables.{Turned, Greatest}
 use Rattle.curves.specs.Steps.{last_below, first_above, open_end}
@@ -293,3 +296,22 @@ line_bounded Sell ps s h = record {
   attained = refl;
   small = omega (arith, line_few Sell ps 300000 s h);
 }
+
+-- one piece of a walk over neighbours
+pub inside_step : (ps : List Pair) (i t v : ℕ) (p q : Pair) → 1 ≤ i → i < length ps → p ≡ slice_index_or ps (i - 1) p → q ≡ slice_index_or ps i q →
+    inside (points (drop (i - 1) ps)) t v ≡ cond (nat_lt p.tick t && nat_lt t q.tick) (straight (point p) (point q) t) (inside (points (drop i ps)) t v)
+unfolding inside
+inside_step ps i t v p q low h ep eq =
+    let k : i - 1 + 1 ≡ i = omega arith in
+    let first : drop (i - 1) ps ≡ p ∷ drop i ps = drop_more ps (i - 1) p (omega arith) ∙ (ap (λ (r : Pair). r ∷ drop (i - 1 + 1) ps) (sym ep) ∙ ap (λ (n : ℕ). p ∷ drop n ps) k) in
+    let second : drop i ps ≡ q ∷ drop (i + 1) ps = drop_more ps i q h ∙ ap (λ (r : Pair). r ∷ drop (i + 1) ps) (sym eq) in
+    ap (λ (xs : List Pair). inside (points xs) t v) (first ∙ ap (λ (xs : List Pair). p ∷ xs) second)
+    ∙ ap (λ (xs : List Pair). cond (nat_lt p.tick t && nat_lt t q.tick) (straight (point p) (point q) t) (inside (points xs) t v)) (sym second)
+
+pub inside_end : (ps : List Pair) (i t v : ℕ) → length ps ≤ i + 1 → inside (points (drop i ps)) t v ≡ v
+unfolding inside
+inside_end [] zero t v h = refl
+inside_end [] (suc i) t v h = refl
+inside_end (p ∷ []) zero t v h = refl
+inside_end (p ∷ q ∷ ps) zero t v h = absurd (omega arith)
+inside_end (p ∷ ps) (suc i) t v h = inside_end ps i t v (omega arith)

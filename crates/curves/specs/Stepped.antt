@@ -1,6 +1,7 @@
 -- The laws of a step order.
-use Rattle.std.specs.Prelude.{◌≡◌, ℕ, ◌≤◌, true, cond, List, [], ◌∷◌, nat_le, nat_lt, refl}
-use Rattle.std.proofs.Common.{arith}
+use Rattle.std.specs.Prelude.{◌≡◌, ℕ, ◌+◌, ◌<◌, ◌≤◌, true, cond, List, [], ◌∷◌, length, drop, nat_le, nat_lt, slice_index_or, refl}
+use Rattle.std.proofs.Common.{ap, sym, ◌∙◌, arith}
+use Rattle.std.proofs.lemmas.List.{at_drop_more, at_drop_all}
 use Rattle.std.proofs.lemmas.Bool.{and_parts, leb-true}
 use Rattle.std.proofs.lemmas.Bool.Decides.{nat_tests}
 use Rattle.curves.specs.declared.sides.Side.{Side}
@@ -116,3 +117,20 @@ step_bounded Sell ps s h = record {
 pub step_few : (side : Side) (ps : List Point) (t : ℕ) → Small ps → ordered side ps ≡ true → step_shows side ps t ≤ 100000
 step_few Buy ps t s h = above_few ps t 100000 (sinks_all ps s h)
 step_few Sell ps t s h = below_few ps t 0 s (omega arith)
+
+-- one pair of a walk
+pub below_step : (ps : List Pair) (i t v : ℕ) (p : Pair) → i < length ps → p ≡ slice_index_or ps i p → last_below (points (drop i ps)) t v ≡ last_below (points (drop (i + 1) ps)) t (cond (nat_le p.tick t) p.volume v)
+unfolding last_below
+below_step ps i t v p h e = at_drop_more (λ (xs : List Pair). last_below (points xs) t v) ps i p h ∙ ap (λ (q : Pair). last_below (points (drop (i + 1) ps)) t (cond (nat_le q.tick t) q.volume v)) (sym e)
+
+pub above_step : (ps : List Pair) (i t : ℕ) (p : Pair) → i < length ps → p ≡ slice_index_or ps i p → first_above (points (drop i ps)) t ≡ cond (nat_le t p.tick) p.volume (first_above (points (drop (i + 1) ps)) t)
+unfolding first_above
+above_step ps i t p h e = at_drop_more (λ (xs : List Pair). first_above (points xs) t) ps i p h ∙ ap (λ (q : Pair). cond (nat_le t q.tick) q.volume (first_above (points (drop (i + 1) ps)) t)) (sym e)
+
+pub below_end : (ps : List Pair) (i t v : ℕ) → length ps ≤ i → last_below (points (drop i ps)) t v ≡ v
+unfolding last_below
+below_end ps i t v h = at_drop_all (λ (xs : List Pair). last_below (points xs) t v) ps i h
+
+pub above_end : (ps : List Pair) (i t : ℕ) → length ps ≤ i → first_above (points (drop i ps)) t ≡ 0
+unfolding first_above
+above_end ps i t h = at_drop_all (λ (xs : List Pair). first_above (points xs) t) ps i h

@@ -27,6 +27,6 @@ pub fn push_final(
     ensures kept { Kept (verdict_of result) (string_bytes out.old) (string_bytes out.new) }
 {
     let day = FinalDay::new(rows, blocks, hours, marks, posts, posted)?;
-    day.push(out)?;
+    day.push(out, day.posted.fills())?;
     Ok(())
 }

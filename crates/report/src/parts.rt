@@ -63,15 +63,17 @@ impl FinalDay<'_> {
         Ok(())
     }
 
+    // The fills come beside the day, so that what is printed of them is told apart from what hours and shares count.
     #[tactic(auto, using(crate::proofs::Steps::four), unfolding(crate::specs::Final::final_text))]
-    pub(crate) fn push(&self, out: &mut String) -> Result<(), AllocError>
+    pub(crate) fn push(&self, out: &mut String, fills: &[Fill]) -> Result<(), AllocError>
+        requires { fills.now ≡ self.now.posted }
         ensures { OnOk result (string_bytes out.new ≡ string_bytes out.old ++ final_text (places self.now.rows.now) (sets_of self.now.blocks.now) self.now.hours.now self.now.marks.now self.now.posted) }
     {
         let shares = self.shares();
         self.push_hours(out)?;
         self.push_blocks(out)?;
         self.push_rows(out, &shares)?;
-        push_posts(out, self.posted.fills())?;
+        push_posts(out, fills)?;
         Ok(())
     }
 }

@@ -6,4 +6,5 @@ pub mod Steps
 pub mod Stages
 pub mod Turns
 pub mod Paging
+pub mod Writings
 pub mod Places

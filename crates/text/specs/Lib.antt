@@ -4,4 +4,5 @@ pub mod Tokens
 pub mod Closing
 pub mod Staged
 pub mod Pages
+pub mod Writes
 pub mod Places

@@ -1,4 +1,4 @@
-// Text: items, tokens and lines, read from an input and printed on a page by one description of a format.
+// Text: items, tokens and lines, read from an input, and printed on a page or written into a lent output, by one description of a format.
 #![tactic(auto)]
 
 pub mod close;
@@ -10,3 +10,4 @@ pub mod scan;
 #[cfg(test)]
 mod tests;
 pub mod words;
+pub mod write;

@@ -2,6 +2,7 @@
 use crate::close::Close;
 use crate::page::Page;
 use crate::reader::Reader;
+use crate::write::{put_number_item, put_word_item};
 use faults::fault::{Fault, Refusal};
 
 fn misfit(place: usize) -> Result<u32, Fault> {
@@ -50,6 +51,18 @@ fn what_is_written_is_read(rt: HostRuntime) {
     assert_eq!(rt; page.text().len(), 9);
     let mut out = [b'.'; 12];
     out[..9].copy_from_slice(page.text());
+    let mut reader = Reader::new(&out);
+    assert_eq!(rt; reader.keyword(0, b"hours", Close::Space), Ok(()));
+    assert_eq!(rt; reader.number(0, 24, 24, Close::Line), Ok(24));
+    assert_eq!(rt; reader.rest(), b"...".as_slice());
+}
+
+#[test]
+fn what_is_put_is_read(rt: HostRuntime) {
+    let mut out = [b'.'; 12];
+    let at = put_word_item(&mut out, 0, b"hours", Close::Space);
+    let end = put_number_item(&mut out, at, 24, Close::Line);
+    assert_eq!(rt; end, 9);
     let mut reader = Reader::new(&out);
     assert_eq!(rt; reader.keyword(0, b"hours", Close::Space), Ok(()));
     assert_eq!(rt; reader.number(0, 24, 24, Close::Line), Ok(24));

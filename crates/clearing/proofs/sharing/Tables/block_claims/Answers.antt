@@ -1,11 +1,18 @@
-use Rattle.std.proofs.Common.{get_or, None, rules}
-use Rattle.std.proofs.lemmas.List.{get_or_default}
+use Rattle.std.proofs.Common.{ℕ, get_or, None, Option, arith, rules}
+use Rattle.allocation.specs.declared.block.BlockClaim.{BlockClaim}
 use Rattle.clearing.specs.declared.marks.Mark.TheVariants.{Kept}
 use Rattle.clearing.specs.Claims.{is_kept, block_claim}
-use Rattle.clearing.proofs.Tabled.{made_by}
+use Rattle.clearing.proofs.Tabled.{filled_none, filled_more, filled_all}
 use Rattle.clearing.proofs.sharing.Tables.block_claims.Goals as goal
 
-pub returns : goal.returns
-returns c =
+pub loop-i-init : goal.loop-i-init
+loop-i-init c = filled_none 256 _ _ (search rules)
+
+pub loop-i-preserved : goal.loop-i-preserved
+loop-i-preserved c =
     let day = c.args.self.now in
-    made_by _ _ (λ k. block_claim (is_kept (get_or day.marks.now k Kept)) c.args.side day.hour.index (get_or c.args.blocks.now k None)) 256 None (λ k y q l called. (search (rules, get_or_default), search rules)) _ c.from_fn.ensures.items
+    let f : ℕ → Option BlockClaim = λ k. block_claim (is_kept (get_or day.marks.now k Kept)) c.args.side day.hour.index (get_or c.args.blocks.now k None) in
+    filled_more 256 f c.loop-i.claims c.loop-i.i _ (omega arith) (search rules) c.loop-i.invariant
+
+pub returns : goal.returns
+returns c = filled_all 256 _ _ c.loop-i.i (omega arith) c.loop-i.invariant

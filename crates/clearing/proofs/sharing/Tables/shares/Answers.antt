@@ -27,12 +27,12 @@ returns c =
     let cs = row_claims ps sets ms h t side in
     let n : 256 ≡ length ps = omega (arith, places_length day.rows.now, day.whole) in
     let claimed : List (Option Block) → ℕ → List (Option BlockClaim) = λ bs m. tabled (λ k. block_claim (is_kept (get_or ms k Kept)) side h (get_or bs k None)) m in
-    let xs : c.block_claims-blocks.result ≡ map first_of cs = c.block_claims-blocks.ensures ∙ ap (λ bs. claimed bs 256) c.collect-placed.ensures.is ∙ ap (λ m. claimed (blocks_of sets ps) m) n ∙ first_is ps sets ms h t side day.hour.within in
-    let ys : c.market_claims-markets.result ≡ map second_of cs = c.market_claims-markets.ensures ∙ second_is ps sets ms h t side day.hour.within in
-    let zs : c.limit_claims-limits.result ≡ map third_of cs = c.limit_claims-limits.ensures ∙ third_is ps sets ms h t side day.hour.within in
+    let xs : c.block_claims.new.claims ≡ map first_of cs = c.block_claims.ensures ∙ ap (λ bs. claimed bs 256) c.collect.ensures.is ∙ ap (λ m. claimed (blocks_of sets ps) m) n ∙ first_is ps sets ms h t side day.hour.within in
+    let ys : c.market_claims.new.claims ≡ map second_of cs = c.market_claims.ensures ∙ second_is ps sets ms h t side day.hour.within in
+    let zs : c.limit_claims.new.claims ≡ map third_of cs = c.limit_claims.ensures ∙ third_is ps sets ms h t side day.hour.within in
     c.serve_kinds.ensures
-    ∙ ap (λ (x : List (Option BlockClaim)). served_in_turn volume x c.market_claims-markets.result c.limit_claims-limits.result 256) xs
-    ∙ ap (λ (y : List (Option MarketClaim)). served_in_turn volume (map first_of cs) y c.limit_claims-limits.result 256) ys
+    ∙ ap (λ (x : List (Option BlockClaim)). served_in_turn volume x c.market_claims.new.claims c.limit_claims.new.claims 256) xs
+    ∙ ap (λ (y : List (Option MarketClaim)). served_in_turn volume (map first_of cs) y c.limit_claims.new.claims 256) ys
     ∙ ap (λ (z : List (Option LimitClaim)). served_in_turn volume (map first_of cs) (map second_of cs) z 256) zs
     ∙ ap (served_in_turn volume (map first_of cs) (map second_of cs) (map third_of cs)) n
     ∙ turn_is_rule ps sets ms h t side day.hour.within volume

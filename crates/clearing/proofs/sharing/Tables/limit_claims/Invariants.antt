@@ -1,0 +1,8 @@
+use Rattle.std.proofs.Common.{◌+◌, get_or, None}
+use Rattle.book.specs.Views.{place_of}
+use Rattle.clearing.specs.Claims.{limit_of}
+use Rattle.clearing.proofs.Tabled.{Filled}
+use Rattle.clearing.proofs.sharing.Tables.limit_claims.Given as goal
+
+abbrev pub invariant-loop-i : goal.invariant-loop-i
+invariant-loop-i l = Filled 256 (λ k. limit_of (l.self.hour.index + 1) l.side l.self.price.value (place_of (get_or l.self.rows.now k None))) l.claims l.i
