@@ -93,6 +93,10 @@ reached_byte out at b = grind (arith, nat_tests)
 pub write_last : (out mid end : List ℕ) (at k m : ℕ) (bs : List ℕ) (b : ℕ) → mid ≡ wrote out at bs → k ≡ reached out at bs → end ≡ stored mid k b → m ≡ next_at mid k → (end ≡ wrote out at (bs ++ (b ∷ []))) × (m ≡ reached out at (bs ++ (b ∷ [])))
 write_last out mid end at k m bs b e f g h = write_on out mid end at k m bs (b ∷ []) e f (g ∙ sym (wrote_byte mid k b)) (h ∙ sym (reached_byte mid k b))
 
+-- and where it led alone
+pub reached_last : (out mid : List ℕ) (at k m : ℕ) (bs : List ℕ) (b : ℕ) → mid ≡ wrote out at bs → k ≡ reached out at bs → m ≡ next_at mid k → m ≡ reached out at (bs ++ (b ∷ []))
+reached_last out mid at k m bs b e f h = (write_last out mid (stored mid k b) at k m bs b e f refl h).1
+
 -- the byte b alone
 pub write_byte : (out end : List ℕ) (at m b : ℕ) → end ≡ stored out at b → m ≡ next_at out at → (end ≡ wrote out at (b ∷ [])) × (m ≡ reached out at (b ∷ []))
 write_byte out end at m b g h = (g ∙ sym (wrote_byte out at b), h ∙ sym (reached_byte out at b))

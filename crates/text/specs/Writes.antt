@@ -1,8 +1,5 @@
 -- What a writer leaves in its output.
-use Rattle.std.specs.Prelude.{◌≡◌, ℕ, ◌+◌, ◌<◌, min, max, cond, List, ◌++◌, length, take, drop, Ok, Err, Result, nat_lt, slice_set}
-use Rattle.faults.specs.declared.fault.Fault.{Fault}
-use Rattle.faults.specs.declared.fault.Refusal.TheVariants.{WrongLength}
-use Rattle.faults.specs.Refusals.{fault}
+use Rattle.std.specs.Prelude.{ℕ, ◌+◌, min, max, cond, List, ◌++◌, length, take, drop, nat_lt, slice_set}
 
 -- out with bs over its bytes from the index at on, as far as it reaches
 unfoldable pub wrote : List ℕ → ℕ → List ℕ → List ℕ
@@ -18,8 +15,3 @@ stored out at b = cond (nat_lt at (length out)) (slice_set out at b) out
 
 abbrev pub next_at : List ℕ → ℕ → ℕ
 next_at out at = cond (nat_lt at (length out)) (at + 1) at
-
--- the text fits and is written at the front; or the output is too short and left as it was
-abbrev pub Written : List ℕ → List ℕ → Result ℕ Fault → List ℕ → Type 0
-Written text out (Ok n) left = (n ≡ length text) × (left ≡ text ++ drop n out)
-Written text out (Err f) left = (length out < length text) × (f ≡ fault WrongLength 0) × (left ≡ out)

@@ -51,6 +51,7 @@ pub fn put_number(out: &mut [u8], at: usize, n: u64) -> usize
 }
 
 // A number and what ends it.
+#[tactic(auto, using(crate::proofs::Writings::write_last, crate::proofs::Writings::reached_last))]
 pub fn put_number_item(out: &mut [u8], at: usize, n: u64, end: Close) -> usize
     ensures out { out.new ≡ wrote out.old at (decimal n ++ (close_byte end ∷ [])) }
     ensures at { result ≡ reached out.old at (decimal n ++ (close_byte end ∷ [])) }
@@ -60,6 +61,7 @@ pub fn put_number_item(out: &mut [u8], at: usize, n: u64, end: Close) -> usize
 }
 
 // A word and what ends it.
+#[tactic(auto, using(crate::proofs::Writings::write_last, crate::proofs::Writings::reached_last))]
 pub fn put_word_item(out: &mut [u8], at: usize, w: &[u8], end: Close) -> usize
     ensures out { out.new ≡ wrote out.old at (w.now ++ (close_byte end ∷ [])) }
     ensures at { result ≡ reached out.old at (w.now ++ (close_byte end ∷ [])) }
